@@ -1,0 +1,13 @@
+pub mod Counts
+pub mod Lists
+pub mod Limits
+pub mod Ranks
+pub mod Reserved
+pub mod Sets
+pub mod Calls
+pub mod Bits
+pub mod Intervals
+pub mod Masks
+pub mod Bitmaps
+pub mod Configured
+pub mod Worked
