@@ -10,4 +10,11 @@ pub mod Intervals
 pub mod Masks
 pub mod Bitmaps
 pub mod Configured
+pub mod Riv
+pub mod Width
+pub mod Format
+pub mod Reader
+pub mod Uses
+pub mod Rivs
 pub mod Worked
+pub mod Answers

@@ -9,6 +9,7 @@ use Rattle.rules.specs.Counting.{one, count-below, some-below}
 use Rattle.rules.specs.Calendar.{Pool, remains, rank, remaining, left-over, reserved, kept, cycle, in-set, index}
 use Rattle.rules.specs.Worked.{offset-pool, Counted, Worked}
 use Rattle.rules.proofs.Limits.{Limits, limits}
+use Rattle.rules.proofs.Rivs.{rivs}
 use Rattle.rules.proofs.Ranks.{remaining-closed}
 
 all : remaining offset-pool ≡ 10176
@@ -50,9 +51,9 @@ none-kept = refl
 counted : count-below (kept offset-pool) 2 ≡ 0
 counted = omega (arith, ap one none-kept, ap one first-kept)
 
-pub worked : Worked
+calendar : Counted
 unfolding in-set index remains
-worked =
+calendar =
     record {
       remaining = all;
       left-over = left;
@@ -63,3 +64,6 @@ worked =
       inside = second-kept;
       first = omega (arith, counted);
     }
+
+pub worked : Worked
+worked = record { calendar = calendar; rivs = rivs }

@@ -4,6 +4,7 @@ use mathlib.Core.List.{List, [], _∷_}
 use mathlib.Core.Bool.{Bool, true, false}
 use Prim.Native.Nat.{ℕ}
 use lib.ListN.{replicate}
+use Rattle.rules.specs.Rivs.{Rivs}
 use Rattle.rules.specs.Calendar.{Pool, remains, rank, remaining, left-over, reserved, cycle, in-set, index}
 
 -- no TDD, one sync offset at 0, a bitmap of twenty ones
@@ -29,5 +30,7 @@ pub record Counted : Type 0 where
   pub inside : in-set offset-pool 2 ≡ true
   pub first : index offset-pool 2 ≡ 0
 
-abbrev pub Worked : Type 0
-Worked = Counted
+-- all that was checked by hand
+pub record Worked : Type 0 where
+  pub calendar : Counted
+  pub rivs : Rivs

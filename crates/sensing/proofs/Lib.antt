@@ -1,0 +1,3 @@
+pub mod Said
+pub mod Same
+pub mod Examine
