@@ -4,15 +4,15 @@ use pool::Settings;
 use std::fmt;
 
 #[derive(Clone, Copy)]
-pub struct Input {
-    pub settings: Settings,
-    pub start: u64,
-    pub show: u64,
+pub(crate) struct Input {
+    pub(crate) settings: Settings,
+    pub(crate) start: u64,
+    pub(crate) show: u64,
 }
 
 // Why a line cannot be read.
 #[derive(Clone, Copy, PartialEq, Eq, Debug)]
-pub enum Fault {
+pub(crate) enum Fault {
     NoEquals,
     Name,
     Number,
@@ -129,7 +129,7 @@ fn levels(text: &str) -> Result<[u8; 64], Fault> {
 
 impl Input {
     // The built-in pool, from the first subframe that a unit may start at.
-    pub fn built_in() -> Input {
+    pub(crate) fn built_in() -> Input {
         Input {
             settings: Settings {
                 channels: 1,
@@ -147,7 +147,7 @@ impl Input {
     }
 
     // Takes one line into account; a later line for a name counts.
-    pub fn take(&mut self, line: &str) -> Result<(), Fault> {
+    pub(crate) fn take(&mut self, line: &str) -> Result<(), Fault> {
         let line = line.trim();
         if line.is_empty() || line.starts_with('#') {
             return Ok(());

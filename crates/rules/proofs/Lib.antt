@@ -15,6 +15,8 @@ pub mod Width
 pub mod Format
 pub mod Reader
 pub mod Uses
-pub mod Rivs
-pub mod Worked
 pub mod Answers
+pub mod Turns
+pub mod Choose
+pub mod Raises
+pub mod Enough

@@ -1,9 +1,1 @@
-// The rules' definitions stand in specs/; the functions here hold facts about them.
-ghost use Rattle.rules.specs.Worked.{Worked};
-
-// The worked examples hold of the definitions.
-pub fn worked_examples() -> u8
-    ensures { λ _. ⌜ Worked ⌝ }
-{
-    0
-}
+// The definitions of the selection unit stand in specs/, and the lemmas about them in proofs/. There is no running code.

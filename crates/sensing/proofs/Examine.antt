@@ -56,11 +56,12 @@ module _ (m : Meaning) (i a : ℕ) (bs : List ℕ) (x : ℤ) where
 
   pub no-place : (n : ℕ) → Err n ≡ asked-record m i a → all ≡ n
   no-place n e =
-      elim (inside m i) as (λ b. Err n ≡ cond b (cond (ltb a (m .channels)) (Ok (m .held i a)) (Err 24)) (Err 23) → cond b (cond (ltb a (m .channels)) (first-no (heard-questions (m .channels) a bs x ++ last)) 24) 23 ≡ n)
-      [ true ↦ λ e.
-          elim (ltb a (m .channels)) as (λ b. Err n ≡ cond b (Ok (m .held i a)) (Err 24) → cond b (first-no (heard-questions (m .channels) a bs x ++ last)) 24 ≡ n)
-          [ true ↦ λ e. let z : _≡_ {A = ℕ} 0 1 = cc in absurd (omega arith) | false ↦ λ e. cc ] e
-      | false ↦ λ e. cc ] e
+      elim (inside m i) as (λ b. Err n ≡ cond b (cond (ltb a (m .channels)) (Ok (m .held i a)) (Err 24)) (Err 23) → cond b (cond (ltb a (m .channels)) (first-no (heard-questions (m .channels) a bs x ++ last)) 24) 23 ≡ n) [
+        | true ↦ λ e.
+            elim (ltb a (m .channels)) as (λ b. Err n ≡ cond b (Ok (m .held i a)) (Err 24) → cond b (first-no (heard-questions (m .channels) a bs x ++ last)) 24 ≡ n)
+            [ true ↦ λ e. let z : _≡_ {A = ℕ} 0 1 = cc in absurd (omega arith) | false ↦ λ e. cc ] e
+        | false ↦ λ e. cc
+      ] e
 
   module _ (p : inside m i ≡ true) (q : ltb a (m .channels) ≡ true) where
     pub no-record : (e : Refusal) → first-no (heard-questions (m .channels) a bs x) ≡ number e → all ≡ number e

@@ -10,11 +10,11 @@ use Rattle.sensing.proofs.beside.Needs as need
 pub returns : need.returns
 returns c =
     let ne : c .in-Some .old ≡ c .args .new → ⊥ =
-        λ e.
-        c .if-eq .ensures tt
-        (λ k.
-            k (λ d. false≢true (d .1 (ap (λ h. h .what .priority) e))) (λ d. false≢true (d .1 (ap (λ h. h .what .code) e))) (λ d. false≢true (d .1 (ap (λ h. h .what .start) e)))
-            (λ d. false≢true (d .1 (ap (λ h. h .what .length) e))) (λ d. false≢true (d .1 (ap (λ h. h .what .gap) e))) (λ d. false≢true (d .1 (ap (λ h. h .what .mcs) e))) (λ d. false≢true (d .1 (ap (λ h. h .what .again) e))))
-        (λ d. false≢true (d .1 (ap (λ h. h .rsrp) e)))
-        in
+    λ e.
+    c .if-eq .ensures tt
+    (λ k.
+    k (λ d. false≢true (d .1 (ap (λ h. h .what .priority) e))) (λ d. false≢true (d .1 (ap (λ h. h .what .code) e))) (λ d. false≢true (d .1 (ap (λ h. h .what .start) e)))
+    (λ d. false≢true (d .1 (ap (λ h. h .what .length) e))) (λ d. false≢true (d .1 (ap (λ h. h .what .gap) e))) (λ d. false≢true (d .1 (ap (λ h. h .what .mcs) e))) (λ d. false≢true (d .1 (ap (λ h. h .what .again) e))))
+    (λ d. false≢true (d .1 (ap (λ h. h .rsrp) e)))
+    in
     (refl, ap (λ o. free-for (heldIn o) (heldOf (c .args .new))) (c .in-Some .is) ∙ held-other (c .in-Some .old) (c .args .new) ne)

@@ -22,7 +22,8 @@ returns c =
     let x = c .args .rsrp in
     let ok : rsrp-ok x ≡ true = grind (arith, ints) in
     let what = reading-ok (c .args .n) (c .args .resource) (c .args .bytes) (recordOf (c .in-Continue-what .what)) (said .value) in
-    let same = toZ-ofZ w16 x (c .fits .rsrp) in
-    ( heard-yes (c .args .n) (c .args .resource) (c .args .bytes) x (said .answer) ok
-    , ap (λ z. record { what = recordOf (c .in-Continue-what .what); rsrp = z }) same ∙ ap (λ r. record { what = r; rsrp = x }) what
-    , record { within = said .exact .within; inside = said .exact .inside; rsrp = ap rsrp-ok same ∙ ok } )
+    let same = toZ-ofZ w16 x (c .fits .rsrp) in (
+      heard-yes (c .args .n) (c .args .resource) (c .args .bytes) x (said .answer) ok,
+      ap (λ z. record { what = recordOf (c .in-Continue-what .what); rsrp = z }) same ∙ ap (λ r. record { what = r; rsrp = x }) what,
+      record { within = said .exact .within; inside = said .exact .inside; rsrp = ap rsrp-ok same ∙ ok },
+    )

@@ -1,16 +1,15 @@
--- The worked examples hold. Assumes nothing.
+-- The worked calendar holds. Assumes nothing.
 use mathlib.Core.Path.{_≡_, refl, sym, ap, _∙_}
 use mathlib.Core.List.{List, [], _∷_}
 use mathlib.Core.Bool.{Bool, true, false, not, _&&_}
 use Prim.Native.Nat.{ℕ, _+_, _-_, _*_, _/_, _%_}
 use native.Mathlib.Omega.{arith}
 use lib.Dec.{eqb}
 use Rattle.rules.specs.Counting.{one, count-below, some-below}
 use Rattle.rules.specs.Calendar.{Pool, remains, rank, remaining, left-over, reserved, kept, cycle, in-set, index}
-use Rattle.rules.specs.Worked.{offset-pool, Counted, Worked}
+use Rattle.worked.specs.Calendars.{offset-pool, Counted}
 use Rattle.rules.proofs.Limits.{Limits, limits}
-use Rattle.rules.proofs.Rivs.{rivs}
 use Rattle.rules.proofs.Ranks.{remaining-closed}
 
 all : remaining offset-pool ≡ 10176
 all = omega (arith, remaining-closed offset-pool (limits offset-pool refl))
@@ -51,7 +50,7 @@ none-kept = refl
 counted : count-below (kept offset-pool) 2 ≡ 0
 counted = omega (arith, ap one none-kept, ap one first-kept)
 
-calendar : Counted
+pub calendar : Counted
 unfolding in-set index remains
 calendar =
     record {
@@ -64,6 +63,3 @@ calendar =
       inside = second-kept;
       first = omega (arith, counted);
     }
-
-pub worked : Worked
-worked = record { calendar = calendar; rivs = rivs }

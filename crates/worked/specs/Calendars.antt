@@ -1,11 +1,10 @@
--- Worked examples, checked by hand, as one fact about the definitions. Assumes nothing.
+-- A worked calendar, checked by hand. Assumes nothing.
 use mathlib.Core.Path.{_≡_}
 use mathlib.Core.List.{List, [], _∷_}
 use mathlib.Core.Bool.{Bool, true, false}
 use Prim.Native.Nat.{ℕ}
 use lib.ListN.{replicate}
-use Rattle.rules.specs.Rivs.{Rivs}
 use Rattle.rules.specs.Calendar.{Pool, remains, rank, remaining, left-over, reserved, cycle, in-set, index}
 
 -- no TDD, one sync offset at 0, a bitmap of twenty ones
 abbrev pub offset-pool : Pool
@@ -29,8 +28,3 @@ pub record Counted : Type 0 where
   pub outside : in-set offset-pool 1 ≡ false
   pub inside : in-set offset-pool 2 ≡ true
   pub first : index offset-pool 2 ≡ 0
-
--- all that was checked by hand
-pub record Worked : Type 0 where
-  pub calendar : Counted
-  pub rivs : Rivs

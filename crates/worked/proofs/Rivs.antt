@@ -1,9 +1,9 @@
 -- The worked RIVs hold. Assumes nothing.
 use mathlib.Core.Path.{refl}
 use native.Mathlib.Omega.{arith}
 use Rattle.rules.specs.Format.{riv, width, pair}
-use Rattle.rules.specs.Rivs.{Rivs}
+use Rattle.worked.specs.Rivs.{Rivs}
 use Rattle.rules.proofs.Riv.{names-below}
 
 pub rivs : Rivs
 unfolding riv width pair

@@ -1,0 +1,4 @@
+pub mod Calendars
+pub mod Rivs
+pub mod Yard
+pub mod Scenes

@@ -1,0 +1,18 @@
+// Facts about the rules' definitions, each held by a function whose contract it is.
+ghost use Rattle.rules.specs.ChooseLaws.{Sentences, Raises};
+ghost use Rattle.worked.specs.Examples.{Examples};
+
+// What was worked out by hand holds of the definitions.
+pub fn worked_examples() -> u8
+    ensures { λ _. ⌜ Examples ⌝ }
+{
+    0
+}
+
+// The tests of choosing decide the sentences that stand beside them, and raises act as they should.
+pub fn choosing_says() -> u8
+    ensures sentences { λ _. ⌜ Sentences ⌝ }
+    ensures raises { λ _. ⌜ Raises ⌝ }
+{
+    0
+}
