@@ -52,7 +52,7 @@ fn read(rt: &LibcRuntime, text: &str) -> Result<Input, AnyError> {
         match input.take(line) {
             Ok(()) => {}
             Err(fault) => {
-                return Err(format!(rt.alloc(), "line {number}, `{line}`: {fault}")?.into());
+                return Err(format!(rt.alloc(), "line {number}: {fault}: `{line}`")?.into());
             }
         }
     }

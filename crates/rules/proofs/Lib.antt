@@ -20,3 +20,6 @@ pub mod Turns
 pub mod Choose
 pub mod Raises
 pub mod Enough
+pub mod Sorting
+pub mod Orders
+pub mod Reports

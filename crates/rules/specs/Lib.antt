@@ -6,3 +6,4 @@ pub mod Format
 pub mod Sensing
 pub mod Choose
 pub mod ChooseLaws
+pub mod Reports

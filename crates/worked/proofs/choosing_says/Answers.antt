@@ -1,5 +1,6 @@
 use Rattle.rules.proofs.Choose.{blinded-is, is-blinded, reserved-is, is-reserved}
 use Rattle.rules.proofs.Raises.{survives-more, survives-last}
+use Rattle.rules.proofs.Reports.{report-law}
 use Rattle.rules.proofs.Turns.{turn-is, is-turn}
 use Rattle.worked.proofs.choosing_says.Needs as need
 
@@ -13,4 +14,5 @@ returns c =
             reserve = λ p m q r c wide fair. (reserved-is p m q r c wide fair, is-reserved p m q r c wide fair);
           };
       raises = record { more = survives-more; last = survives-last };
+      report = report-law;
     }
