@@ -23,3 +23,6 @@ pub mod Enough
 pub mod Sorting
 pub mod Orders
 pub mod Reports
+pub mod Soundness
+pub mod HeldCount
+pub mod Accepted

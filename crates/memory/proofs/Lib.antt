@@ -1,0 +1,11 @@
+pub mod RowCells
+pub mod DenseHeld
+pub mod DenseCalls
+pub mod DenseSteps
+pub mod EntryPutting
+pub mod EntryLiving
+pub mod EntryCounted
+pub mod EntryDropping
+pub mod SparseAsked
+pub mod SparseSelf
+pub mod SparseSteps
