@@ -228,13 +228,16 @@ fifth n = (n + 4) / 5
 unfoldable pub report : Pool → ℕ → Meaning → Question → ℕ → List Place
 report p now m q raise = ordered earlier (take (fifth (length (candidates p now q))) (ordered (ahead p m q) (survivors p now m q raise)))
 
--- the questions that choose puts before a raise is looked for
-abbrev pub choose-questions : Pool → ℕ → Question → List (Bool × ℕ)
-choose-questions p now q =
+-- the questions that the scheduler's question is put by itself
+abbrev pub question-questions : Pool → Question → List (Bool × ℕ)
+question-questions p q =
     (leb 1 (q .length) && leb (q .length) (p .channels), 34)
     ∷ (allowed p (q .code), 35)
     ∷ (leb 1 (q .turns) && leb (q .turns) 750, 36)
     ∷ (leb (q .priority) 7, 37)
     ∷ (leb 1 (q .from) && leb (q .from) 4 && leb 20 (q .to) && leb (q .to) 100, 38)
-    ∷ (ltb 0 (length (candidates p now q)), 40)
     ∷ []
+
+-- the questions that choose puts before a raise is looked for
+abbrev pub choose-questions : Pool → ℕ → Question → List (Bool × ℕ)
+choose-questions p now q = question-questions p q ++ (ltb 0 (length (candidates p now q)), 40) ∷ []
