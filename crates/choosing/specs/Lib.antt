@@ -1,3 +1,4 @@
 pub mod Asked
 pub mod Slots
 pub mod Found
+pub mod Blinds
