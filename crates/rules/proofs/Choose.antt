@@ -7,7 +7,7 @@ use Rattle.rules.specs.Calendar.{Pool, window, distance, allowed}
 use Rattle.rules.specs.Format.{Record, Uses, Partner}
 use Rattle.rules.specs.Sensing.{Meaning, Held, Fair, listened?}
 use Rattle.rules.specs.Choose.{Question, Place, interval, repeats, window_of, Turn, turn, meets, blinds, blinded, Blinded, share, partner_of, taken_by_partner, takes, held_reserves, reserved_at, Reserved, level_of, above}
-use Rattle.rules.specs.ChooseLaws.{FairHeld}
+use Rattle.rules.specs.ChooseLaws.{FairWindow}
 use Rattle.rules.proofs.Turns.{turn_is, is_turn, some_counted, counted_some}
 
 module _ (p : Pool) (m : Meaning) (q : Question) where
@@ -157,7 +157,7 @@ module _ (q : Question) (apart : ℕ) (c : Place) (r : Record) (a b : ℕ) (wide
   is_takes : Taken q apart c r a b → takes q apart c r a b ≡ true
   is_takes w = used w.channel w.index w.across w.turn w.uses
 
-module _ (p : Pool) (m : Meaning) (q : Question) (raise : ℕ) (c : Place) (wide : 1 ≤ q.length) (fair : FairHeld p m) where
+module _ (p : Pool) (m : Meaning) (q : Question) (raise : ℕ) (c : Place) (wide : 1 ≤ q.length) (fair : FairWindow p m) where
   by_held : (z a : ℕ) → m.next - window p ≤ z → z < m.next - window p + window p → a < p.channels → (o : Option Held) → m.held z a ≡ o → held_reserves p m q raise c z a o ≡ true → Reserved p m q raise c
   by_held z a low high below None e t = absurd (true≢false (sym t))
   by_held z a low high below (Some h) e t =

@@ -4,7 +4,7 @@ use Rattle.std.proofs.lemmas.Bool.{cases_Bool, cases_lt, leb-true, le-leb, true�
 use Rattle.rules.specs.Calendar.{Pool}
 use Rattle.rules.specs.Sensing.{Meaning}
 use Rattle.rules.specs.Choose.{Question, Place, candidates, survives, survivors, enough, Fewest}
-use Rattle.rules.specs.ChooseLaws.{FairHeld}
+use Rattle.rules.specs.ChooseLaws.{FairWindow}
 use Rattle.rules.proofs.Raises.{survives_more, survives_last}
 
 -- a weaker test keeps no fewer
@@ -31,13 +31,13 @@ module _ (p : Pool) (now : ℕ) (m : Meaning) (q : Question) where
       let more = kept_more (survives p m q r) (survives p m q s) (candidates p now q) (λ c. survives_more p m q r s c h) in
       le-leb _ _ (omega arith)
 
-  enough_last : FairHeld p m → (r : ℕ) → 43 ≤ r → enough p now m q r ≡ enough p now m q 43
+  enough_last : FairWindow p m → (r : ℕ) → 43 ≤ r → enough p now m q r ≡ enough p now m q 43
   unfolding survivors
   enough_last fair r h =
       ap (λ xs. leb (length (candidates p now q)) (5 * length xs)) (kept_same (survives p m q r) (survives p m q 43) (candidates p now q) (λ c. survives_last p m q r c fair h))
 
   -- where 43 raises leave too few, any number does
-  pub never : FairHeld p m → enough p now m q 43 ≡ false → (r : ℕ) → enough p now m q r ≡ false
+  pub never : FairWindow p m → enough p now m q 43 ≡ false → (r : ℕ) → enough p now m q r ≡ false
   never fair f r =
       ⊎_elim
       (λ (h : r < 43). ⊎_elim (λ t. absurd (true≢false (sym (enough_more r 43 (omega arith) t) ∙ f))) (λ e. e) (cases_Bool (enough p now m q r)))

@@ -8,8 +8,12 @@ use Rattle.rules.specs.Counting.{any}
 use Rattle.rules.specs.Calendar.{Pool, window, distance, threshold}
 use Rattle.rules.specs.Sensing.{Meaning, Held, Fair, rsrp_ok}
 use Rattle.rules.specs.Choose.{Question, Place, interval, repeats, takes, held_reserves, reserved_at, blinded, survives, level_of, above}
-use Rattle.rules.specs.ChooseLaws.{FairHeld}
+use Rattle.rules.specs.ChooseLaws.{FairHeld, FairWindow}
 use Rattle.rules.proofs.Turns.{any_weaker, any_counted, any_below}
+
+-- records that are within their limits wherever they are held, are so in the window
+pub fair_window : (p : Pool) (m : Meaning) → FairHeld p m → FairWindow p m
+fair_window p m fair z a h low high below e = fair z a h below e
 
 -- a threshold that rises lets fewer records pass
 less_loud : (v r s : ℕ) (x : ℤ) → r ≤ s → lt_z (threshold v +ℤ pos (30 * s)) x ≡ true → lt_z (threshold v +ℤ pos (30 * r)) x ≡ true
@@ -68,7 +72,7 @@ held_last p m q r c z a (Some k) fair h =
     ap (λ b. b && any (λ i. takes q (interval p q) c k.what a (z + i * distance p k.what.code)) (range_with_len 0 (repeats p k.what.code (m.next - z) + 1)))
     (above_last (level_of p q.priority k.what.priority) r k.rsrp h (and_parts _ _ (fair k refl).rsrp).1)
 
-pub survives_last : (p : Pool) (m : Meaning) (q : Question) (r : ℕ) (c : Place) → FairHeld p m → 43 ≤ r → survives p m q r c ≡ survives p m q 43 c
+pub survives_last : (p : Pool) (m : Meaning) (q : Question) (r : ℕ) (c : Place) → FairWindow p m → 43 ≤ r → survives p m q r c ≡ survives p m q 43 c
 unfolding reserved_at
 survives_last p m q r c fair h =
     ap (λ b. not (blinded p m q c.at) && not b)

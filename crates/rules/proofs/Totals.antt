@@ -106,8 +106,8 @@ module _ {X : Type 0} (before : X → X → Bool) (asym : (a b : X) → before a
       let s = same_tests a b c w.0 w.1 in
       ap (λ x. cond x Less (cond (before c a) Greater Equal)) s.0 ∙ ap (λ x. cond (before b c) Less (cond x Greater Equal)) s.1
 
-  abbrev pub total : IsTotalOrder (λ (a b : X) (o : Ordering). o ≡ r a b)
-  total = record { cmp = r; says = λ a b o e. e; flip = flips; trans = chains; alike = alike }
+  abbrev pub total : IsTotalOrder r
+  total = record { antisymm = flips; trans = chains; congr = alike }
 
   -- what `sort` ensures puts the elements in order
   sorted_from : (xs : List X) → ((i j : ℕ) (d : X) → i ≤ j → j < length xs → before (get_or xs j d) (get_or xs i d) ≡ false) → Sorted before xs

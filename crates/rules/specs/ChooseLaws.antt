@@ -5,9 +5,13 @@ use Rattle.rules.specs.Choose.{Question, Place, Turn, turn, blinded, Blinded, re
 use Rattle.rules.specs.Reports.{In}
 use Rattle.rules.specs.Sensing.{Meaning, Held, Fair}
 
--- every record that is held in the window is within its limits
+-- every record that is held is within its limits
 abbrev pub FairHeld : Pool → Meaning → Type 0
-FairHeld p m = (z a : ℕ) (h : Held) → m.next - window p ≤ z → z < m.next - window p + window p → a < p.channels → m.held z a ≡ Some h → Fair p.channels a h
+FairHeld p m = (z a : ℕ) (h : Held) → a < p.channels → m.held z a ≡ Some h → Fair p.channels a h
+
+-- every record that is held in the window is within its limits
+abbrev pub FairWindow : Pool → Meaning → Type 0
+FairWindow p m = (z a : ℕ) (h : Held) → m.next - window p ≤ z → z < m.next - window p + window p → a < p.channels → m.held z a ≡ Some h → Fair p.channels a h
 
 pub record Sentences : Type 0 where
   -- an index is one of the turns exactly when some j says so
@@ -16,8 +20,6 @@ pub record Sentences : Type 0 where
   pub blind : (p : Pool) (m : Meaning) (q : Question) (y : ℕ) → (blinded p m q y ≡ true → Blinded p m q y) × (Blinded p m q y → blinded p m q y ≡ true)
   -- and reserved at a raise likewise, for questions of one sub-channel at least and records within their limits
   pub reserve : (p : Pool) (m : Meaning) (q : Question) (r : ℕ) (c : Place) → 1 ≤ q.length → FairHeld p m → (reserved_at p m q r c ≡ true → Reserved p m q r c) × (Reserved p m q r c → reserved_at p m q r c ≡ true)
-  -- an index is a sample of y exactly when the sentence holds, for every y that lies past the window
-  pub sample : (p : Pool) (m : Meaning) (q : Question) (y z : ℕ) → m.next - window p + window p ≤ y → (In z (samples p m q y) → Sample p m q y z) × (Sample p m q y z → In z (samples p m q y))
 
 -- how raises act
 pub record Raises : Type 0 where
@@ -25,3 +27,7 @@ pub record Raises : Type 0 where
   pub more : (p : Pool) (m : Meaning) (q : Question) (r s : ℕ) (c : Place) → r ≤ s → survives p m q r c ≡ true → survives p m q s c ≡ true
   -- past 43 raises nothing changes, for records within their limits
   pub last : (p : Pool) (m : Meaning) (q : Question) (r : ℕ) (c : Place) → FairHeld p m → 43 ≤ r → survives p m q r c ≡ survives p m q 43 c
+
+-- an index is a sample of y exactly when the sentence holds, for every y that lies past the window
+abbrev pub Sampling : Type 0
+Sampling = (p : Pool) (m : Meaning) (q : Question) (y z : ℕ) → m.next - window p + window p ≤ y → (In z (samples p m q y) → Sample p m q y z) × (Sample p m q y z → In z (samples p m q y))

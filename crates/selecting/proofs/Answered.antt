@@ -8,7 +8,7 @@ use Rattle.answer.specs.Numbers.{number}
 use Rattle.answer.specs.declared.Refusal.{Refusal}
 use Rattle.rules.specs.Calendar.{Pool, window}
 use Rattle.rules.specs.Choose.{Question, candidates, enough, Fewest, report, interval, choose_questions, fifth}
-use Rattle.rules.specs.ChooseLaws.{FairHeld}
+use Rattle.rules.specs.ChooseLaws.{FairWindow}
 use Rattle.rules.specs.Configure.{within}
 use Rattle.rules.specs.Counting.{first_no}
 use Rattle.rules.specs.Reports.{Reported}
@@ -29,8 +29,8 @@ use Rattle.selecting.specs.declared.Report.{Report}
 use Rattle.selecting.proofs.Told.{Told, enough_told, report_told}
 
 -- what a memory that fits holds in the window is within its limits
-pub fair_held : (p : Pool) (m : Meaning) → Sound m → Fit p m → FairHeld p m
-fair_held p m s fit z a h low high below e =
+pub fair_window : (p : Pool) (m : Meaning) → Sound m → Fit p m → FairWindow p m
+fair_window p m s fit z a h low high below e =
     let n = fit.channels in
     let w = fit.window in
     let old = s.old in
@@ -82,4 +82,4 @@ module _ (p : Pool) (now : ℕ) (m : Meaning) (q : Question) (good : within p �
 
   pub refuses : (asked : Asked) (apart : ℕ) (e : Refusal) → Selected es asked apart (Err e) → Chosen p now m q (Err e)
   refuses asked apart e w =
-      inr (questions, w.0, never p now m q (fair_held p m sound fit) (none_enough 44 (omega arith) w.1 43 (omega arith)))
+      inr (questions, w.0, never p now m q (fair_window p m sound fit) (none_enough 44 (omega arith) w.1 43 (omega arith)))

@@ -6,6 +6,7 @@ use Rattle.rules.specs.Format.{Within}
 use Rattle.rules.specs.Sensing.{Meaning, Held, Fair, rsrp_ok}
 use Rattle.rules.specs.Choose.{Place, candidates, blinded, reserved_at, survives, survivors, enough, mean, ahead, earlier, ordered, fifth, report}
 use Rattle.rules.proofs.Enough.{never, fewest, at_once}
+use Rattle.rules.proofs.Raises.{fair_window}
 use Rattle.worked.specs.Scenes.{yard, ask, quiet, deaf, crowd, plain, origin, Scenes}
 use Rattle.worked.proofs.Yard.{places, candidates_are}
 
@@ -86,7 +87,7 @@ plain_within =
     }
 
 fair_crowd : (level : ℕ) (x : ℤ) → rsrp_ok x ≡ true → FairHeld (yard level) (crowd x)
-fair_crowd level x ok z a h low high below e =
+fair_crowd level x ok z a h below e =
     let one : (b c : Bool) → cond b (cond c (Some (record { what = plain; rsrp = x })) None) None ≡ Some h → h ≡ record { what = plain; rsrp = x } = here in
     let same = one (leb 30904 z) (leb z 30920) e in
     subst (Fair 3 a) (sym same) (record { within = plain_within; inside = omega arith; rsrp = ok })
@@ -97,7 +98,7 @@ fair_crowd level x ok z a h low high below e =
     here false c e = let n : ◌≡◌ {A = ℕ} 0 1 = cc in absurd (omega arith)
 
 fair_deaf : (n : ℕ) → FairHeld (yard 10) (deaf n)
-fair_deaf n z a h low high below e = let z : ◌≡◌ {A = ℕ} 0 1 = cc in absurd (omega arith)
+fair_deaf n z a h below e = let z : ◌≡◌ {A = ℕ} 0 1 = cc in absurd (omega arith)
 
 pub scenes : Scenes
 scenes =
@@ -107,9 +108,9 @@ scenes =
       quiet_size = quiet_size;
       quiet_last = quiet_last;
       thirteen = thirteen;
-      fourteen = never (yard 10) 31000 (deaf 30918) ask (fair_deaf 30918) deaf_43;
+      fourteen = never (yard 10) 31000 (deaf 30918) ask (fair_window _ _ (fair_deaf 30918)) deaf_43;
       three = fewest (yard 10) 31000 (crowd (negsuc 1009)) ask 2 three_yes three_no;
       four = fewest (yard 10) 31000 (crowd (negsuc 1008)) ask 3 four_yes four_no;
-      lowest = never (yard 0) 31000 (crowd (negsuc 1009)) ask (fair_crowd 0 (negsuc 1009) refl) lowest_43;
+      lowest = never (yard 0) 31000 (crowd (negsuc 1009)) ask (fair_window _ _ (fair_crowd 0 (negsuc 1009) refl)) lowest_43;
       highest = at_once (yard 66) 31000 (crowd (negsuc 1009)) ask highest_yes;
     }

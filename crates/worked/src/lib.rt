@@ -1,5 +1,5 @@
 // Facts about the rules' definitions, each held by a function whose contract it is.
-ghost use Rattle.rules.specs.ChooseLaws.{Sentences, Raises};
+ghost use Rattle.rules.specs.ChooseLaws.{Sentences, Raises, Sampling};
 ghost use Rattle.rules.specs.Reports.{ReportLaw};
 ghost use Rattle.worked.specs.Examples.{Examples};
 
@@ -16,6 +16,13 @@ pub fn choosing_says() -> u8
     ensures sentences { Sentences }
     ensures raises { Raises }
     ensures report { ReportLaw }
+{
+    0
+}
+
+// The samples of a candidate are those that the sentence beside them names.
+pub fn samples_say() -> u8
+    ensures { Sampling }
 {
     0
 }
