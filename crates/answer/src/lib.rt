@@ -1,5 +1,8 @@
 // The refusals of the selection unit: a closed list, with a number and a one-line cause for each.
-ghost use Rattle.std.specs.Prelude.{◌≡◌, Some, Decides};
+#![tactic(auto)]
+
+ghost use Rattle.std.specs.Prelude.{◌≡◌, Some, Decides, nat_eq};
+ghost use Rattle.std.specs.Ordering.{on};
 ghost use Rattle.answer.specs.Numbers.{number as number_of, cause as cause_of, line, Distinct};
 ghost use Rattle.std.specs.Cmp.Rules.{comparing};
 ghost use Rattle.std.proofs.Common.{rules};
@@ -136,11 +139,14 @@ impl Refusal {
 
 // Equal refusals are those with equal numbers. A derived `==` would say nothing at so many cases.
 impl PartialEq for Refusal {
-    ghost equals = { λ a b r. Decides r (a ≡ b) };
+    ghost eq = { on number_of nat_eq };
 
     ghost laws = { Keys.partial_equiv_from_equiv (Prim.search (comparing, rules)) };
 
-    fn eq(&self, other: &Refusal) -> bool {
+    fn eq(&self, other: &Refusal) -> bool
+        ensures gives { result ≡ nat_eq (number_of self.now) (number_of other.now) }
+        ensures decides { Decides result (self.now ≡ other.now) }
+    {
         self.number() == other.number()
     }
 }

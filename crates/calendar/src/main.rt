@@ -1,4 +1,6 @@
 // Reads a pool from standard input, as lines `name = value`, and prints how it counts subframes.
+#![tactic(auto)]
+
 use anyhow::anyhow;
 use input::Input;
 use pool::Pool;

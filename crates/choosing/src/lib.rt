@@ -1,4 +1,6 @@
 // Choosing: the question of a scheduler, and the candidates that it has.
+#![tactic(auto)]
+
 ghost use Rattle.std.specs.Prelude.{◌≡◌, ℕ, ◌≤◌, length};
 
 pub mod blinds;

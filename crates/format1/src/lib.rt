@@ -1,4 +1,6 @@
 // The reader of control records, format 1.
+#![tactic(auto)]
+
 ghost use Rattle.std.specs.Prelude.{◌≡◌, ℕ, ◌+◌, ◌*◌, ◌^◌, ◌<◌, ◌≤◌, ◌&&◌, Decides, MatchOption, MatchResult, nat_le, nat_lt};
 ghost use Rattle.rules.specs.Counting.{first_no};
 ghost use Rattle.rules.specs.Format.{Names, Reads, Uses, pairs, pair, width, bits, questions, reading, partner, uses as uses_test, Numbered, Fitting, LaidOut, Exact, Tested};

@@ -1,4 +1,6 @@
 // The mean S-RSSI of each candidate, as an exact fraction.
+#![tactic(auto)]
+
 ghost use Rattle.std.specs.Prelude.{◌≡◌, ℕ, ◌^◌, ◌<◌, ◌≤◌};
 
 pub mod means;

@@ -1,4 +1,6 @@
 // One list of deliveries, resends and slides over a dense and a sparse memory, with their answers side by side.
+#![tactic(auto)]
+
 use answer::Refusal;
 use memory::dense::Dense;
 use memory::entries::Entry;

@@ -1,4 +1,6 @@
 // The two kinds of sensing memory, over rows, readings and record places that the caller lends.
+#![tactic(auto)]
+
 pub mod dense;
 pub mod entries;
 pub mod rows;

@@ -1,4 +1,6 @@
 // The resource pool: its limits as an invariant, configure, and what it answers about subframes.
+#![tactic(auto)]
+
 ghost use Rattle.std.specs.Prelude.{◌≡◌, ℕ, ◌%◌, ◌<◌, ◌≤◌, true};
 ghost use Rattle.rules.specs.Calendar.{cycle};
 ghost use Rattle.rules.specs.Configure.{within};

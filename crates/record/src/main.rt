@@ -1,5 +1,7 @@
 // Reads control records from lines `N HHHHHHHH`, the number of sub-channels and the four bytes in hexadecimal, with the
 // resource as a third field or 0, and prints the fields of each or why it is refused. With no input it shows an example.
+#![tactic(auto)]
+
 ghost use Rattle.std.specs.Prelude.{◌≡◌, ℕ, ◌≤◌, IfOk, string_bytes};
 ghost use Rattle.record.specs.Lines.{fields};
 

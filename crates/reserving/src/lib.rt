@@ -1,4 +1,6 @@
 // From which raise on each candidate survives.
+#![tactic(auto)]
+
 ghost use Rattle.std.specs.Prelude.{◌≤◌};
 ghost use Rattle.pool.specs.Pools.{meaning as pool_meaning};
 ghost use Rattle.choosing.specs.Asked.{question_of};

@@ -1,5 +1,7 @@
 // Shows selections: reads scenes from standard input, fills a memory of each kind, puts the questions, and prints the
 // candidates, the raise and the report. With no input it shows a built-in scene.
+#![tactic(auto)]
+
 use answer::Refusal;
 use anyhow::anyhow;
 use choosing::Question;

@@ -1,4 +1,6 @@
 // Selecting: the fewest raises, the order of the survivors, and the report.
+#![tactic(auto)]
+
 ghost use Rattle.std.specs.Prelude.{◌≡◌, ℕ, ◌<◌, ◌≤◌, true, length, take};
 ghost use Rattle.rules.specs.Ranks.{rising};
 ghost use Rattle.selecting.specs.Entries.{sooner};

@@ -1,4 +1,6 @@
 // A sensing memory by its meaning: what it answers, and what its calls add.
+#![tactic(auto)]
+
 ghost use Rattle.std.specs.Prelude.{◌≡◌, ℕ, ◌<◌, ◌≤◌, true, false, length, Decides, ◌≢◌};
 ghost use Rattle.answer.specs.Numbers.{answered};
 ghost use Rattle.rules.specs.Counting.{first_no};

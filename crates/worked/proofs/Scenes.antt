@@ -108,9 +108,9 @@ scenes =
       quiet_size = quiet_size;
       quiet_last = quiet_last;
       thirteen = thirteen;
-      fourteen = never (yard 10) 31000 (deaf 30918) ask (fair_window _ _ (fair_deaf 30918)) deaf_43;
+      fourteen = never (yard 10) 31000 (deaf 30918) ask (fair_window (yard 10) (deaf 30918) (fair_deaf 30918)) deaf_43;
       three = fewest (yard 10) 31000 (crowd (negsuc 1009)) ask 2 three_yes three_no;
       four = fewest (yard 10) 31000 (crowd (negsuc 1008)) ask 3 four_yes four_no;
-      lowest = never (yard 0) 31000 (crowd (negsuc 1009)) ask (fair_window _ _ (fair_crowd 0 (negsuc 1009) refl)) lowest_43;
+      lowest = never (yard 0) 31000 (crowd (negsuc 1009)) ask (fair_window (yard 0) (crowd (negsuc 1009)) (fair_crowd 0 (negsuc 1009) refl)) lowest_43;
       highest = at_once (yard 66) 31000 (crowd (negsuc 1009)) ask highest_yes;
     }

@@ -1,4 +1,6 @@
 // Facts about the rules' definitions, each held by a function whose contract it is.
+#![tactic(auto)]
+
 ghost use Rattle.rules.specs.ChooseLaws.{Sentences, Raises, Sampling};
 ghost use Rattle.rules.specs.Reports.{ReportLaw};
 ghost use Rattle.worked.specs.Examples.{Examples};
