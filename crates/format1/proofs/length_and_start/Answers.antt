@@ -13,15 +13,15 @@ told : (n v : ℕ) (o : Option (ℕ × ℕ)) → pair n v ≡ o → Told n v o
 told n v o e =
     record { value = sym e; names = subst (λ x. MatchOption x ((l f : ℕ) → Names n v l f → ⊥) (λ p. Names n v p.0 p.1)) e (pair_means n v) }
 
-pub returns-then-riv-pair-count : goal.returns-then-riv-pair-count
-returns-then-riv-pair-count c =
+pub returns-then-riv-pair_count : goal.returns-then-riv-pair_count
+returns-then-riv-pair_count c =
     let n = c.args.n in
     let v = c.args.riv in
     let t = told n v None (pair_none n v (omega arith)) in
     record { value = t.value; names = t.names }
 
-pub overflow-sub-result : goal.overflow-sub-result
-overflow-sub-result c = omega (arith, (below_placed c.args.n c.args.riv (omega arith)).row_half)
+pub overflow_sub-result : goal.overflow_sub-result
+overflow_sub-result c = omega (arith, (below_placed c.args.n c.args.riv (omega arith)).row_half)
 
 pub returns-then-row-column : goal.returns-then-row-column
 returns-then-row-column c =

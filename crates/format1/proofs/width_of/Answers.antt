@@ -12,8 +12,8 @@ smallest n x m is less more =
 pub returns : goal.returns
 returns c =
     let n = c.args.n in
-    let x = c.saturating-sub.result in
-    let w = leading_length 16 x c.saturating-sub.type-inv in
+    let x = c.saturating_sub.result in
+    let w = leading_length 16 x c.saturating_sub.type_inv in
     let m = w.0 in
     let e = width_is n m (smallest n x m (omega arith) w.2 w.3) in
     let few = width_small n (omega arith) in

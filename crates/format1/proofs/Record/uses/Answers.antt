@@ -12,10 +12,10 @@ pub returns-then-own : goal.returns-then-own
 unfolding uses
 returns-then-own c = record { value = search rules; means = means (meant_of c.args.self.now) _ _ _ _ _ (search rules) }
 
-pub returns-then-at-partner : goal.returns-then-at-partner
+pub returns-then-at_partner : goal.returns-then-at_partner
 unfolding uses
-returns-then-at-partner c = record { value = search rules; means = means (meant_of c.args.self.now) _ _ _ _ _ (search rules) }
+returns-then-at_partner c = record { value = search rules; means = means (meant_of c.args.self.now) _ _ _ _ _ (search rules) }
 
-pub returns-else-at-partner : goal.returns-else-at-partner
+pub returns-else-at_partner : goal.returns-else-at_partner
 unfolding uses
-returns-else-at-partner c = record { value = search rules; means = means (meant_of c.args.self.now) _ _ _ _ _ (search rules) }
+returns-else-at_partner c = record { value = search rules; means = means (meant_of c.args.self.now) _ _ _ _ _ (search rules) }

@@ -6,8 +6,8 @@ use Rattle.pool.specs.Pools.{meaning}
 use Rattle.pool.proofs.Kept.{small, size_is}
 use Rattle.pool.proofs.Pool.bit.Goals as goal
 
-pub bit-of-requires : goal.bit-of-requires
-bit-of-requires c = omega (arith, small c.args.self.now)
+pub bit_of-requires : goal.bit_of-requires
+bit_of-requires c = omega (arith, small c.args.self.now)
 
 pub returns-then-i-self : goal.returns-then-i-self
 returns-then-i-self c =
@@ -17,4 +17,4 @@ returns-then-i-self c =
 pub returns : goal.returns
 returns c =
     let p = c.args.self.now in
-    c.bit-of.ensures ∙ sym (get_or-map-range_with_len (word_bit p.bitmap) 0 p.size c.args.i c.args.i false (omega arith) (omega arith))
+    c.bit_of.ensures ∙ sym (get_or-map-range_with_len (word_bit p.bitmap) 0 p.size c.args.i c.args.i false (omega arith) (omega arith))

@@ -4,5 +4,10 @@ use Rattle.rules.proofs.Limits.{limits}
 use Rattle.rules.proofs.Sets.{cycle_some, cycle_divides}
 use Rattle.pool.proofs.Pool.built_in.Goals as goal
 
-pub invariant-of-result : goal.invariant-of-result
-invariant-of-result c = (omega arith, (refl, (cycle_some built_in (limits built_in refl), (cycle_divides built_in (limits built_in refl), tt))))
+pub invariant_of-result : goal.invariant_of-result
+invariant_of-result c = record {
+  few = omega arith;
+  limits = refl;
+  some = cycle_some built_in (limits built_in refl);
+  whole = cycle_divides built_in (limits built_in refl);
+}

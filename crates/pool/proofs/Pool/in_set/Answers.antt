@@ -20,7 +20,7 @@ returns c =
     let k = c.rank-rank.ensures.value in
     let less : c.args.subframe % 10240 < 10240 = omega arith in
     let next = c.reserved_before.ensures ∙ ap (λ k. reserved_before (remaining m) (left_over m) (k + 1)) k in
-    let here = c.reserved-before-2.ensures ∙ ap (reserved_before (remaining m) (left_over m)) k in
+    let here = c.reserved_before-2.ensures ∙ ap (reserved_before (remaining m) (left_over m)) k in
     ap (λ b. eqb c.reserved_before.result b) here
     ∙ ap (λ a. eqb a (reserved_before (remaining m) (left_over m) (rank m (c.args.subframe % 10240)))) next
     ∙ set_here m (keeps p) (c.args.subframe % 10240) less (sym c.if-not-remains.ensures)

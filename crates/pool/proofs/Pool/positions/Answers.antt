@@ -10,6 +10,6 @@ pub returns : goal.returns
 returns c =
     let p = c.args.self.now in
     let l = limits (meaning p) p.limits in
-    let e = ap ones c.mask-of.ensures ∙ mask_ones p.uplink l.coded in
+    let e = ap ones c.mask_of.ensures ∙ mask_ones p.uplink l.coded in
     let b = some_position p.uplink l.coded in
     record { value = e; some = omega arith; few = omega arith }

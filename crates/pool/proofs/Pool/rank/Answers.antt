@@ -5,8 +5,8 @@ use Rattle.pool.specs.Pools.{meaning}
 use Rattle.pool.proofs.Kept.{keeps}
 use Rattle.pool.proofs.Pool.rank.Goals as goal
 
-pub overflow-sub-result : goal.overflow-sub-result
-overflow-sub-result c =
+pub overflow_sub-result : goal.overflow_sub-result
+overflow_sub-result c =
     let p = c.args.self.now in
     let e = rank_closed (meaning p) (keeps p) c.args.d in
     let u = c.uplink_before.ensures.value in

@@ -4,12 +4,12 @@ use Rattle.rules.specs.Counting.{among}
 use Rattle.pool.specs.Pools.{meaning}
 use Rattle.pool.proofs.Pool.remains.Goals as goal
 
-pub returns-then-on-uplink : goal.returns-then-on-uplink
+pub returns-then-on_uplink : goal.returns-then-on_uplink
 unfolding remains
-returns-then-on-uplink c =
-    ap not c.on-sync.ensures.value ∙ ap (λ b. b && not (among (c.args.d % 160) (meaning c.args.self.now).offsets)) c.if-on-uplink.ensures
+returns-then-on_uplink c =
+    ap not c.on_sync.ensures.value ∙ ap (λ b. b && not (among (c.args.d % 160) (meaning c.args.self.now).offsets)) c.if-on_uplink.ensures
 
-pub returns-else-on-uplink : goal.returns-else-on-uplink
+pub returns-else-on_uplink : goal.returns-else-on_uplink
 unfolding remains
-returns-else-on-uplink c =
-    c.if-on-uplink.false ∙ ap (λ b. b && not (among (c.args.d % 160) (meaning c.args.self.now).offsets)) c.if-on-uplink.ensures
+returns-else-on_uplink c =
+    c.if-on_uplink.false ∙ ap (λ b. b && not (among (c.args.d % 160) (meaning c.args.self.now).offsets)) c.if-on_uplink.ensures

@@ -8,5 +8,5 @@ pub returns : goal.returns
 unfolding reserved_before
 returns c =
     let k = c.args.k in
-    ap (λ a. (k * c.left-over.result + a - 1) / a) c.remaining-all.ensures.value
-    ∙ ap (λ v. (k * v + remaining (meaning c.args.self.now) - 1) / remaining (meaning c.args.self.now)) c.left-over.ensures.value
+    ap (λ a. (k * c.left_over.result + a - 1) / a) c.remaining-all.ensures.value
+    ∙ ap (λ v. (k * v + remaining (meaning c.args.self.now) - 1) / remaining (meaning c.args.self.now)) c.left_over.ensures.value

@@ -6,8 +6,8 @@ use Rattle.pool.specs.Pools.{meaning}
 use Rattle.pool.proofs.Kept.{keeps}
 use Rattle.pool.proofs.Pool.set_before.Goals as goal
 
-pub overflow-sub-result : goal.overflow-sub-result
-overflow-sub-result c =
+pub overflow_sub-result : goal.overflow_sub-result
+overflow_sub-result c =
     let m = meaning c.args.self.now in
     let k = c.rank-rank.ensures.value in
     let s = c.reserved_before.ensures ∙ ap (reserved_before (remaining m) (left_over m)) k in

@@ -4,15 +4,15 @@ use Rattle.rules.specs.Sensing.{Inside}
 use Rattle.sensing.proofs.Said.{bare_from, nothing_from}
 use Rattle.sensing.proofs.Asking.nothing_held.Goals as goal
 
-pub returns-then-not-bare-at : goal.returns-then-not-bare-at
-returns-then-not-bare-at g c =
+pub returns-then-not-bare_at : goal.returns-then-not-bare_at
+returns-then-not-bare_at g c =
     let m = g.Self.Asking.meaning c.args.self.now in
     let s = g.Self.Asking.sound c.args.self.now in
     let old = s.old in
-    let i = c.next-index.result - c.window.result + c.loop-k.k in
+    let i = c.next_index.result - c.window.result + c.loop-k.k in
     let w : Inside m i = (omega arith, omega arith) in (
       (λ f. absurd (true≢false (sym f))),
-      (λ nothing. c.if-not-bare-at.ensures ∙ bare_from m i w (λ a l. nothing.records i a w l)),
+      (λ nothing. c.if-not-bare_at.ensures ∙ bare_from m i w (λ a l. nothing.records i a w l)),
     )
 
 pub returns : goal.returns
@@ -20,6 +20,6 @@ returns g c =
     let m = g.Self.Asking.meaning c.args.self.now in
     let s = g.Self.Asking.sound c.args.self.now in
     let old = s.old in (
-      (λ _. nothing_from m (c.next-index.result - c.window.result) (omega arith) (λ j l. c.loop-k.invariant j (omega arith))),
+      (λ _. nothing_from m (c.next_index.result - c.window.result) (omega arith) (λ j l. c.loop-k.invariant j (omega arith))),
       (λ _. refl),
     )
