@@ -95,8 +95,8 @@ fn mark_index<M: Asking>(
     turns: u64,
     z: u64,
 )
-    requires { ((meaning m.now).next ≤ 2 ^ 63) × Inside (meaning m.now) z }
-    ensures { Marked c.now (by_index (pool_meaning pool.now) (meaning m.now) apart turns z) flags.old flags.new }
+    requires { ((M.meaning m.now).next ≤ 2 ^ 63) × Inside (M.meaning m.now) z }
+    ensures { Marked c.now (by_index (pool_meaning pool.now) (M.meaning m.now) apart turns z) flags.old flags.new }
 {
     let Ok(state) = m.state(z) else {
         return;
@@ -110,7 +110,7 @@ fn mark_index<M: Asking>(
 
 // Which of the candidates' subframes are blinded, by one walk over the window. It speaks of memories that fit the pool.
 pub fn blinded<M: Asking>(pool: &Pool, m: &M, q: &Question, c: &Candidates) -> [bool; 100]
-    ensures { (meaning m.now).next ≤ 2 ^ 63 → (meaning m.now).window ≡ window (pool_meaning pool.now) → BlindedAre (pool_meaning pool.now) (meaning m.now) (question_of q.now) c.now result }
+    ensures { (M.meaning m.now).next ≤ 2 ^ 63 → (M.meaning m.now).window ≡ window (pool_meaning pool.now) → BlindedAre (pool_meaning pool.now) (M.meaning m.now) (question_of q.now) c.now result }
 {
     let mut flags = [false; 100];
     let next = m.next_index();

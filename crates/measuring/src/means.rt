@@ -41,8 +41,8 @@ fn sample_step(pool: &Pool, q: &Question) -> u64
 
 // The readings of all sub-channels at an index, if it was listened to.
 fn readings_at<M: Asking>(m: &M, z: u64) -> Option<[u32; 20]>
-    requires { Inside (meaning m.now) z }
-    ensures { Heard (meaning m.now) z result }
+    requires { Inside (M.meaning m.now) z }
+    ensures { Heard (M.meaning m.now) z result }
 {
     let mut readings = [0; 20];
     for a in 0..m.channels() {
@@ -66,8 +66,8 @@ fn add_index<M: Asking>(
     step: u64,
     z: u64,
 )
-    requires { Inside (meaning m.now) z × (length slots.now ≤ 100) × AllSmall (length slots.now) 1000 sums.old }
-    ensures added { AllAdded (meaning m.now) (question_of q.now) step z slots.now sums.old sums.new }
+    requires { Inside (M.meaning m.now) z × (length slots.now ≤ 100) × AllSmall (length slots.now) 1000 sums.old }
+    ensures added { AllAdded (M.meaning m.now) (question_of q.now) step z slots.now sums.old sums.new }
     ensures small { (k : ℕ) → AllSmall (length slots.now) k sums.old → AllSmall (length slots.now) (k + 1) sums.new }
 {
     let Some(readings) = readings_at(m, z) else {
@@ -117,7 +117,7 @@ fn rows_of(sums: &[Sum; 100], n: usize) -> [MeanRow; 100]
 
 // For each slot and first sub-channel the mean of that candidate. It speaks of memories that fit the pool.
 pub fn means<M: Asking>(pool: &Pool, m: &M, q: &Question, c: &Candidates) -> [MeanRow; 100]
-    ensures { Fit (pool_meaning pool.now) (meaning m.now) → MeansAre (pool_meaning pool.now) (meaning m.now) (question_of q.now) (slots_of c.now) result }
+    ensures { Fit (pool_meaning pool.now) (M.meaning m.now) → MeansAre (pool_meaning pool.now) (M.meaning m.now) (question_of q.now) (slots_of c.now) result }
 {
     let empty = Sum {
         under: 0,

@@ -40,7 +40,7 @@ fn lift_blinded(rows: &mut [[u8; 20]; 100], flags: &[bool; 100])
 // For each slot and first sub-channel the raise from which that candidate survives, and 44 where there is none. It speaks
 // of memories that fit the pool.
 pub fn needs<M: Asking>(pool: &Pool, m: &M, q: &Question, c: &Candidates) -> [[u8; 20]; 100]
-    ensures { Fit (pool_meaning pool.now) (meaning m.now) → (question_of q.now).priority ≤ 7 → NeedsAre (pool_meaning pool.now) (meaning m.now) (question_of q.now) (slots_of c.now) result }
+    ensures { Fit (pool_meaning pool.now) (M.meaning m.now) → (question_of q.now).priority ≤ 7 → NeedsAre (pool_meaning pool.now) (M.meaning m.now) (question_of q.now) (slots_of c.now) result }
 {
     if m.next_index() > LATEST || q.priority > 7 {
         return [[NEVER; 20]; 100];

@@ -51,10 +51,10 @@ fn lift_resource<M: Asking>(
     resource: u8,
 )
     requires ready { Ready (pool_meaning pool.now) asked.now.slots.now (question_of asked.now.question) asked.now.apart }
-    requires early { (meaning m.now).next ≤ 2 ^ 63 }
-    requires inside { Inside (meaning m.now) z }
-    requires below { resource < (meaning m.now).channels }
-    ensures { Lifted asked.now.slots.now (by_resource (pool_meaning pool.now) (meaning m.now) (question_of asked.now.question) z resource) rows.old rows.new }
+    requires early { (M.meaning m.now).next ≤ 2 ^ 63 }
+    requires inside { Inside (M.meaning m.now) z }
+    requires below { resource < (M.meaning m.now).channels }
+    ensures { Lifted asked.now.slots.now (by_resource (pool_meaning pool.now) (M.meaning m.now) (question_of asked.now.question) z resource) rows.old rows.new }
 {
     let Ok(found) = m.record(z, resource) else {
         return;
@@ -69,9 +69,9 @@ fn lift_resource<M: Asking>(
 // The same for all resources of an index.
 fn lift_index<M: Asking>(pool: &Pool, m: &M, rows: &mut [[u8; 20]; 100], asked: &Asked, z: u64)
     requires ready { Ready (pool_meaning pool.now) asked.now.slots.now (question_of asked.now.question) asked.now.apart }
-    requires early { (meaning m.now).next ≤ 2 ^ 63 }
-    requires inside { Inside (meaning m.now) z }
-    ensures { Lifted asked.now.slots.now (by_index (pool_meaning pool.now) (meaning m.now) (question_of asked.now.question) (meaning m.now).channels z) rows.old rows.new }
+    requires early { (M.meaning m.now).next ≤ 2 ^ 63 }
+    requires inside { Inside (M.meaning m.now) z }
+    ensures { Lifted asked.now.slots.now (by_index (pool_meaning pool.now) (M.meaning m.now) (question_of asked.now.question) (M.meaning m.now).channels z) rows.old rows.new }
 {
     for resource in 0..m.channels() {
         lift_resource(pool, m, rows, asked, z, resource);
@@ -81,8 +81,8 @@ fn lift_index<M: Asking>(pool: &Pool, m: &M, rows: &mut [[u8; 20]; 100], asked: 
 // The same for all indices of the window.
 pub(crate) fn lift_window<M: Asking>(pool: &Pool, m: &M, rows: &mut [[u8; 20]; 100], asked: &Asked)
     requires ready { Ready (pool_meaning pool.now) asked.now.slots.now (question_of asked.now.question) asked.now.apart }
-    requires early { (meaning m.now).next ≤ 2 ^ 63 }
-    ensures { Lifted asked.now.slots.now (by_window (pool_meaning pool.now) (meaning m.now) (question_of asked.now.question) ((meaning m.now).next - (meaning m.now).window) (meaning m.now).window) rows.old rows.new }
+    requires early { (M.meaning m.now).next ≤ 2 ^ 63 }
+    ensures { Lifted asked.now.slots.now (by_window (pool_meaning pool.now) (M.meaning m.now) (question_of asked.now.question) ((M.meaning m.now).next - (M.meaning m.now).window) (M.meaning m.now).window) rows.old rows.new }
 {
     let low = m.next_index() - m.window();
     for k in 0..m.window() {

@@ -55,7 +55,7 @@ fn look<M: Asking>(
     q: &Question,
     raise: &mut Raise,
 ) -> Result<Report, Refusal>
-    ensures { at < 2 ^ 63 → Fit (pool_meaning pool.now) (meaning m.now) → Chosen (pool_meaning pool.now) at (meaning m.now) (question_of q.now) result }
+    ensures { at < 2 ^ 63 → Fit (pool_meaning pool.now) (M.meaning m.now) → Chosen (pool_meaning pool.now) at (M.meaning m.now) (question_of q.now) result }
 {
     let found = candidates(pool, at, q)?;
     let free_from = needs(pool, m, q, &found);
@@ -74,7 +74,7 @@ pub fn choose<M: Asking>(
     raise: &mut Raise,
 ) -> Result<Report, Refusal>
     ensures zero { raise.new.steps ≡ 0 }
-    ensures chosen { at < 2 ^ 63 → Fit (pool_meaning pool.now) (meaning m.now) → Chosen (pool_meaning pool.now) at (meaning m.now) (question_of q.now) result }
+    ensures chosen { at < 2 ^ 63 → Fit (pool_meaning pool.now) (M.meaning m.now) → Chosen (pool_meaning pool.now) at (M.meaning m.now) (question_of q.now) result }
 {
     let guard = RaiseGuard(raise);
     look(pool, at, m, q, guard.0)

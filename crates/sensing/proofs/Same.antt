@@ -1,5 +1,7 @@
 -- Two records that test the same are the same. Assumes nothing.
-use Rattle.std.proofs.Common.{◌≡◌, ℕ, Bool, true, false, ◌&&◌, eqb, ℤ, sym, refl, ap, ◌∙◌, ⊎_elim, arith}
+use Rattle.std.proofs.Common.{◌≡◌, ℕ, Bool, true, false, ◌&&◌, eqb, nat_eq, ℤ, sym, refl, ap, ◌∙◌, ⊎_elim, arith}
+use Rattle.std.specs.Ordering.{int_eq}
+use Rattle.std.proofs.lemmas.Cmp.{int_eq_equiv}
 use lib.Signed.{le_z}
 use Rattle.std.proofs.lemmas.Int.{ints}
 use Rattle.std.proofs.lemmas.Bool.{and_parts, and_from, eqb-true, eq-eqb, cases_Bool}
@@ -43,3 +45,14 @@ pub held_self : (h : Held) → same_held (held_of h) (held_of h) ≡ true
 held_self h =
     let e : (n : ℕ) → eqb n n ≡ true = λ n. eq-eqb n n refl in
     rw (e h.what.priority, e h.what.code, e h.what.start, e h.what.length, e h.what.gap, e h.what.mcs, e h.what.again, le_self h.rsrp)
+
+-- what `==` computes of two records
+abbrev pub fields_eq : Held → Held → Bool
+fields_eq h k =
+    (nat_eq h.what.priority k.what.priority && (nat_eq h.what.code k.what.code && (nat_eq h.what.start k.what.start && (nat_eq h.what.length k.what.length && (nat_eq h.what.gap k.what.gap && (nat_eq h.what.mcs k.what.mcs && nat_eq h.what.again k.what.again))))))
+    && int_eq h.rsrp k.rsrp
+
+pub fields_self : (h : Held) → fields_eq h h ≡ true
+fields_self h =
+    let e : (n : ℕ) → nat_eq n n ≡ true = λ n. eq-eqb n n refl in
+    rw (e h.what.priority, e h.what.code, e h.what.start, e h.what.length, e h.what.gap, e h.what.mcs, e h.what.again, int_eq_equiv.refl h.rsrp)

@@ -166,7 +166,7 @@ pub fn examine_record<M: Asking>(
     bytes: [u8; 4],
     rsrp: i16,
 ) -> Result<Option<Held>, Refusal>
-    ensures { Examined (meaning m.now) index resource bytes rsrp result }
+    ensures { Examined (M.meaning m.now) index resource bytes rsrp result }
 {
     let held = m.record(index, resource)?;
     let new = heard(m.channels(), resource, bytes, rsrp)?;
@@ -194,8 +194,8 @@ fn readings_ok(n: u8, readings: &[u32]) -> bool
 
 // Are the readings of an index that was listened to these?
 fn same_readings<M: Asking>(m: &M, index: u64, readings: &[u32]) -> bool
-    requires { length readings.now ≡ (meaning m.now).channels }
-    ensures { SameReadings (meaning m.now) index readings.now result }
+    requires { length readings.now ≡ (M.meaning m.now).channels }
+    ensures { SameReadings (M.meaning m.now) index readings.now result }
 {
     for a in 0..m.channels() {
         let Ok(held) = m.reading(index, a) else {
@@ -214,7 +214,7 @@ fn same_readings<M: Asking>(m: &M, index: u64, readings: &[u32]) -> bool
 // Are the readings that a memory is asked to keep new? They are not where they are held already; or they are refused by
 // the first question answered no.
 pub fn examine_readings<M: Asking>(m: &M, index: u64, readings: &[u32]) -> Result<bool, Refusal>
-    ensures { ExaminedReadings (meaning m.now) index readings.now result }
+    ensures { ExaminedReadings (M.meaning m.now) index readings.now result }
 {
     let state = m.state(index)?;
     if !readings_ok(m.channels(), readings) {
@@ -234,7 +234,7 @@ pub fn examine_readings<M: Asking>(m: &M, index: u64, readings: &[u32]) -> Resul
 
 // May a memory mark the index as sent in?
 pub fn examine_sent<M: Asking>(m: &M, index: u64) -> Result<(), Refusal>
-    ensures { ExaminedSent (meaning m.now) index result }
+    ensures { ExaminedSent (M.meaning m.now) index result }
 {
     let state = m.state(index)?;
     if state != State::Blank {

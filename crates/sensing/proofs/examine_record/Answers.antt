@@ -53,4 +53,4 @@ returns g c =
     let t = told m i c.args.resource c.in_ok-held.held c.in_ok-held.ensures in
     let s = stated m i _ c.in_ok-state.ensures in
     let h = as_heard m c.args.resource c.args.bytes c.args.rsrp (Ok c.in_ok-new.new) _ c.channels.ensures c.ranges.rsrp c.in_ok-new.ensures in
-    finish m i c.args.resource c.args.bytes c.args.rsrp t.inside t.below c.in_ok-held.held t.value c.in_ok-new.new h.0 h.1 h.2 (sent_not (m.cell i) c.in_ok-state.state s.value c.if-eq.ensures) c.beside.result c.beside.ensures
+    finish m i c.args.resource c.args.bytes c.args.rsrp t.inside t.below c.in_ok-held.held t.value c.in_ok-new.new h.0 h.1 h.2 (sent_not (m.cell i) c.in_ok-state.state s.value (let h : c.in_ok-state.state ≡ Sent → ⊥ = search rules in h)) c.beside.result c.beside.ensures
