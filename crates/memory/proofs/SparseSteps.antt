@@ -1,6 +1,6 @@
 -- What one call does to a sparse memory. Assumes nothing.
 use Rattle.std.proofs.Common.{◌≡◌, ℕ, ◌+◌, ◌-◌, ◌*◌, ◌%◌, ◌<◌, ◌≤◌, Bool, true, false, cond, ltb, List, length, set, Some, None, Option, sym, refl, ap, ◌∙◌, subst, arith}
-use Rattle.std.proofs.lemmas.List.{length_map, length-set}
+use Rattle.std.proofs.lemmas.List.{length-map, length-set}
 use Rattle.std.proofs.lemmas.Bool.{le-ltb, lt-ltb, le-leb, and_from, cond-false}
 use Rattle.rules.specs.Sensing.{Meaning, Held as Meant, Cell, blank, listened, sent, Inside, Sound, Fair, New, Nothing, Moved, Added, Changed, readings_ok, held_count}
 use Rattle.rules.proofs.Soundness.{moved_sound, added_sound, listened_sound, sent_sound}
@@ -48,7 +48,7 @@ cond_none false o e = e
 -- slide
 module _ (n w next to : ℕ) (rows : List Row) (readings : List ℕ) (ps qs : List (Option Entry)) (whole : Whole n w next rows readings ps) (on : next ≤ to) (d : Dropped (to - w) ps qs) where
   size_same : length qs ≡ length ps
-  size_same = ap length d.places ∙ length_map ps (kept_from (to - w))
+  size_same = ap length d.places ∙ length-map ps (kept_from (to - w))
 
   pub slid : Moved (meant n w next rows readings ps) to (meant n w to rows readings qs)
   unfolding held_at

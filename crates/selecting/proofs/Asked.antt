@@ -1,6 +1,6 @@
 -- The report question, by where its place stands. Assumes nothing.
 use Rattle.std.proofs.Common.{◌≡◌, ℕ, ◌<◌, ◌≤◌, true, false, cond, ltb, length, get_or, Ok, Err, sym, refl, ap, ◌∙◌, arith}
-use Rattle.std.proofs.lemmas.List.{length_map, get_or-map}
+use Rattle.std.proofs.lemmas.List.{length-map, get_or-map}
 use Rattle.std.proofs.lemmas.Bool.{lt-ltb, le-ltb}
 use Rattle.selecting.specs.Entries.{nowhere}
 use Rattle.selecting.specs.Made.{marks, left}
@@ -10,7 +10,7 @@ use Rattle.selecting.specs.declared.Report.{Report}
 use Rattle.selecting.proofs.Marked.{mark_at}
 
 pub left_many : (r : Report) → length (left r) ≡ length (marks r.marked r.size)
-left_many r = length_map (marks r.marked r.size) (λ k. get_or r.places k nowhere)
+left_many r = length-map (marks r.marked r.size) (λ k. get_or r.places k nowhere)
 
 -- the place at k is place i of those still marked
 pub left_at : (r : Report) (i k : ℕ) → k < r.size → get_or r.marked k false ≡ true → length (marks r.marked k) ≡ i → (i < length (left r)) × (get_or r.places k nowhere ≡ get_or (left r) i nowhere)

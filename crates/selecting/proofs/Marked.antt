@@ -2,7 +2,7 @@
 use Rattle.std.proofs.Common.{◌≡◌, ℕ, zero, suc, ◌+◌, ◌-◌, ◌<◌, ◌≤◌, Bool, true, false, cond, ◌≢◌, List, [], ◌∷◌, ◌++◌, map, length, get_or, take, drop, set, filter, sym, refl, ap, ◌∙◌, subst, ⊎_elim, add-zero, add-one, arith, length-set, get_or-set_other, get_or-set_same}
 use Rattle.std.specs.List.{range_with_len}
 use Rattle.std.proofs.lemmas.List.Elements.{filter-append}
-use Rattle.std.proofs.lemmas.List.{append_assoc, append-nil, length-append, get_or_at, get_or_past, take_at, drop_at, map-append, length_map}
+use Rattle.std.proofs.lemmas.List.{append_assoc, append-nil, length-append, get_or_at, get_or_past, take_at, drop_at, map-append, length-map}
 use Rattle.std.proofs.lemmas.Bool.{cases_Bool, cases_lt}
 use Rattle.selecting.specs.Made.{marks}
 
@@ -87,7 +87,7 @@ module _ (marked : List Bool) (k n : ℕ) (less : k < n) (t : flag marked k ≡ 
       let front = map g (marks marked k) in
       let back = map g (rest marked k n) in
       let whole : map g (marks marked n) ≡ front ++ g k ∷ back = ap (map g) (split marked k n less t) ∙ map-append g (marks marked k) (k ∷ rest marked k n) in
-      let long : length front ≡ i = length_map (marks marked k) g ∙ e in
+      let long : length front ≡ i = length-map (marks marked k) g ∙ e in
       let cut : take i (map g (marks marked n)) ≡ front = ap (take i) whole ∙ take_at front (g k ∷ back) i long in
       let more : front ++ g k ∷ back ≡ (front ++ g k ∷ []) ++ back = sym (append_assoc front (g k ∷ []) back) in
       let size : length (front ++ g k ∷ []) ≡ suc i = length-append front (g k ∷ []) ∙ omega arith in

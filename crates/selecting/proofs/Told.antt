@@ -4,7 +4,7 @@ use mathlib.Core.List.{map-map}
 use Rattle.std.specs.List.Sorted.{IsPermutation}
 use Rattle.std.specs.List.{AllByRecursion as All}
 use Rattle.std.proofs.ByRecursion.{all_kept_by, all_shuffled}
-use Rattle.std.proofs.lemmas.List.{length_map, take-map}
+use Rattle.std.proofs.lemmas.List.{length-map, take-map}
 use Rattle.std.proofs.lemmas.List.Sums.{length-filter}
 use Rattle.std.proofs.lemmas.Bool.{cases_Bool}
 use Rattle.rules.specs.Calendar.{Pool}
@@ -57,12 +57,12 @@ module _ (p : Pool) (now : ℕ) (m : Meaning) (q : Question) where
     survivors_told r low = kept_told r low es told ∙ ap (filter (survives p m q r)) all
 
     many : length es ≡ length (candidates p now q)
-    many = sym (length_map es candidate_of) ∙ ap length all
+    many = sym (length-map es candidate_of) ∙ ap length all
 
     -- the list leaves a fifth exactly where the raise does
     pub enough_told : (r : ℕ) → r ≤ 43 → enough p now m q r ≡ leaves es r
     enough_told r low =
-        let left : length (survivors p now m q r) ≡ count_by (free r) es = ap length (sym (survivors_told r low)) ∙ length_map (filter (free r) es) candidate_of ∙ length-filter (free r) es in
+        let left : length (survivors p now m q r) ≡ count_by (free r) es = ap length (sym (survivors_told r low)) ∙ length-map (filter (free r) es) candidate_of ∙ length-filter (free r) es in
         ap (λ n. leb n (5 * length (survivors p now m q r))) (sym many) ∙ ap (λ n. leb (length es) (5 * n)) left
 
     before_told : (a b : Entry) → Told a → Told b → before a b ≡ ahead p m q (candidate_of a) (candidate_of b)

@@ -16,7 +16,7 @@ pub loop-place-preserved : goal.loop-place-preserved
 loop-place-preserved c =
     let F : List (Option Entry) → Option Held = λ ps. find ps c.args.index c.args.resource in
     let step = at_drop_more F c.args.places.now c.loop-place.place-index None c.loop-place-test.true in
-    sym (first_none _ _ c.args.index c.args.resource c.in-default.ensures) ∙ sym step ∙ c.loop-place.invariant
+    sym (first_none _ _ c.args.index c.args.resource c.in_default.ensures) ∙ sym step ∙ c.loop-place.invariant
 
 pub returns : goal.returns
 returns c =

@@ -3,8 +3,8 @@ use Rattle.std.proofs.lemmas.List.{get_or-take, get_or-drop}
 use Rattle.memory.proofs.RowCells.{block_below, reading_there}
 use Rattle.memory.proofs.rows.reading_at.Goals as goal
 
-pub offset-bounds-readings-row : goal.offset-bounds-readings-row
-offset-bounds-readings-row c = let h = block_below c.args.window c.args.channels c.args.index _ c.requires.readings in omega (arith, c.requires.resource)
+pub offset_bounds-readings-row : goal.offset_bounds-readings-row
+offset_bounds-readings-row c = let h = block_below c.args.window c.args.channels c.args.index _ c.requires.readings in omega (arith, c.requires.resource)
 
 pub bounds-readings-row : goal.bounds-readings-row
 bounds-readings-row c = let h = block_below c.args.window c.args.channels c.args.index _ c.requires.readings in omega (arith, c.requires.resource)

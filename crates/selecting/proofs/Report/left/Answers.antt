@@ -1,5 +1,5 @@
 use Rattle.std.proofs.Common.{◌≡◌, length, get_or, sym, ap, ◌∙◌, arith}
-use Rattle.std.proofs.lemmas.List.{length_map}
+use Rattle.std.proofs.lemmas.List.{length-map}
 use Rattle.selecting.specs.Entries.{nowhere}
 use Rattle.selecting.specs.Made.{marks}
 use Rattle.selecting.proofs.Marked.{marks_yes, marks_no}
@@ -19,4 +19,4 @@ pub returns : goal.returns
 returns c =
     let r = c.args.self.now in
     let all : c.loop-k.k ≡ r.size = omega arith in
-    c.loop-k.invariant.0 ∙ ap (λ n. length (marks r.marked n)) all ∙ sym (length_map (marks r.marked r.size) (λ k. get_or r.places k nowhere))
+    c.loop-k.invariant.0 ∙ ap (λ n. length (marks r.marked n)) all ∙ sym (length-map (marks r.marked r.size) (λ k. get_or r.places k nowhere))

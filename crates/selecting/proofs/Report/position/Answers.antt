@@ -1,5 +1,5 @@
 use Rattle.std.proofs.Common.{◌≡◌, length, get_or, sym, ap, ◌∙◌, arith}
-use Rattle.std.proofs.lemmas.List.{length_map}
+use Rattle.std.proofs.lemmas.List.{length-map}
 use Rattle.selecting.specs.Entries.{nowhere}
 use Rattle.selecting.specs.Made.{marks}
 use Rattle.selecting.proofs.Marked.{marks_yes, marks_no}

@@ -8,7 +8,7 @@ first : (b : Bool) (n k x : ℕ) → 1 < n → n ≡ cond b 0 k → n ≡ cond b
 first true n k x some e = absurd (omega arith)
 first false n k x some e = e
 
-pub returns-in-err-ask : goal.returns-in-err-ask
-returns-in-err-ask c =
-    let p = err_from_is_err_and c.from-residual.result c.from-residual.ensures.1 in
-    rw (p.1, p.2) (first _ _ 23 _ (number_some c.in-err-ask.field-0.0) c.in-err-ask.ensures)
+pub returns-in_err-ask : goal.returns-in_err-ask
+returns-in_err-ask c =
+    let p = err_from_is_err_and c.from_residual.result c.from_residual.ensures.1 in
+    rw (p.1, p.2) (first _ _ 23 _ (number_some c.in_err-ask.field-0.0) c.in_err-ask.ensures)

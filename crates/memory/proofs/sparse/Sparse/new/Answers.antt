@@ -4,12 +4,12 @@ use Rattle.memory.specs.SparseParts.{meant}
 use Rattle.memory.proofs.SparseSteps.{is_new, new_whole}
 use Rattle.memory.proofs.sparse.Sparse.new.Goals as goal
 
-pub invariant-of-result : goal.invariant-of-result
-invariant-of-result c =
+pub invariant_of-result : goal.invariant_of-result
+invariant_of-result c =
     let fit = c.requires in
     let long : c.args.window < length c.clear.new.rows = omega arith in
     let k = new_whole c.args.channels c.args.window c.clear.new.rows c.args.readings.now c.clear-2.new.places long c.clear.ensures c.clear-2.ensures fit.some fit.few fit.short (omega arith) fit.wide in
-    (k.long, (k.wide, (k.upto, (k.keys, (k.lives, (∣ k.sound ∣₁, tt))))))
+    record { long = k.long; wide = k.wide; upto = k.upto; keys = k.keys; lives = k.lives; sound = ∣ k.sound ∣₁ }
 
 pub returns : goal.returns
 returns c =

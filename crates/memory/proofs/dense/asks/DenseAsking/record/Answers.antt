@@ -18,16 +18,16 @@ below m i a asked = ltb-true a m.channels (yes_at (resource_questions m i a) ref
 pub returns-then-not-stands : goal.returns-then-not-stands
 returns-then-not-stands c =
     let self = c.args.self.now in
-    answers (dense self) c.args.index c.args.resource _ c.in-ok-ask-at.ensures
+    answers (dense self) c.args.index c.args.resource _ c.in_ok-ask_at.ensures
     (held_unstamped self.channels self.window self.store.rows.now self.store.places.now c.args.index c.args.resource (sym c.if-not-stands.ensures))
 
 pub bounds-self-row : goal.bounds-self-row
 bounds-self-row c =
     let self = c.args.self.now in
-    omega (arith, block_below self.window self.channels c.args.index _ self.deep, below (dense self) c.args.index c.args.resource c.in-ok-ask-at.ensures)
+    omega (arith, block_below self.window self.channels c.args.index _ self.deep, below (dense self) c.args.index c.args.resource c.in_ok-ask_at.ensures)
 
 pub returns : goal.returns
 returns c =
     let self = c.args.self.now in
-    answers (dense self) c.args.index c.args.resource _ c.in-ok-ask-at.ensures
+    answers (dense self) c.args.index c.args.resource _ c.in_ok-ask_at.ensures
     (held_stamped self.channels self.window self.store.rows.now self.store.places.now c.args.index c.args.resource (eqb-true _ _ (sym c.if-not-stands.ensures)))

@@ -5,8 +5,8 @@ use Rattle.memory.proofs.RowCells.{block_below}
 use Rattle.memory.proofs.DenseSteps.{record_added}
 use Rattle.memory.proofs.dense.store.Store.put.Goals as goal
 
-pub offset-bounds-self-row : goal.offset-bounds-self-row
-offset-bounds-self-row c =
+pub offset_bounds-self-row : goal.offset_bounds-self-row
+offset_bounds-self-row c =
     let row : c.args.index % (c.args.window + 1) ≤ 1000 = omega (arith, mod_below c.args.index (c.args.window + 1) (omega arith), c.requires.room.short) in
     let wide : c.args.channels ≤ 255 = omega arith in
     omega (arith, mul-le (c.args.index % (c.args.window + 1)) c.args.channels 1000 255 row wide, c.requires.below)

@@ -12,15 +12,15 @@ use Rattle.memory.proofs.SparseSelf.{whole}
 use Rattle.memory.proofs.SparseSteps.{Whole, written, heard_whole}
 use Rattle.memory.proofs.sparse.keeps.SparseKeeping.keep_readings.Goals as goal
 
-pub returns-in-err-examine-readings : goal.returns-in-err-examine-readings
-returns-in-err-examine-readings c =
+pub returns-in_err-examine_readings : goal.returns-in_err-examine_readings
+returns-in_err-examine_readings c =
     let s = c.args.self.now in
-    let e = c.in-err-examine-readings.field-0.0 in
-    let p = err_from_is_err_and c.from-residual.result c.from-residual.ensures.1 in
+    let e = c.in_err-examine_readings.field-0.0 in
+    let p = err_from_is_err_and c.from_residual.result c.from_residual.ensures.1 in
     let some = number_some e in
     rw (p.1, p.2)
     (record {
-      answer = sym (readings_refused (sparse s) c.args.index c.args.readings.now (number e) c.in-err-examine-readings.ensures (omega arith));
+      answer = sym (readings_refused (sparse s) c.args.index c.args.readings.now (number e) c.in_err-examine_readings.ensures (omega arith));
       done = λ z. absurd (omega arith);
       refused = λ _. refl;
     })
@@ -28,7 +28,7 @@ returns-in-err-examine-readings c =
 pub returns-then-not-branch : goal.returns-then-not-branch
 returns-then-not-branch c =
     let s = c.args.self.now in
-    let asked = c.in-ok-examine-readings.ensures in
+    let asked = c.in_ok-examine_readings.ensures in
     record {
       answer = sym (readings_passed (sparse s) c.args.index c.args.readings.now _ asked.0 (asked.2 ∙ ap not c.if-not-branch.true));
       done = λ e. absurd (omega arith);
@@ -38,17 +38,17 @@ returns-then-not-branch c =
 pub file-requires : goal.file-requires
 file-requires c =
     let s = c.args.self.now in
-    let asked = c.in-ok-examine-readings.ensures in
+    let asked = c.in_ok-examine_readings.ensures in
     let rs = c.args.readings.now in
     let many = readings_many s.channels rs (readings_fine (sparse s) c.args.index rs asked.0) in
     let k = whole s in
     record { short = k.sound.short; long = k.long; wide = subst (λ m. (s.window + 1) * m ≤ length s.store.readings.now) (sym many) k.wide }
 
-pub invariant-of-self : goal.invariant-of-self
-invariant-of-self c =
+pub invariant_of-self : goal.invariant_of-self
+invariant_of-self c =
     let s = c.args.self.now in
     let i = c.args.index in
-    let asked = c.in-ok-examine-readings.ensures in
+    let asked = c.in_ok-examine_readings.ensures in
     let rs = c.args.readings.now in
     let ok = readings_fine (sparse s) i rs asked.0 in
     let rows = c.file.new.self.rows.now in
@@ -57,13 +57,13 @@ invariant-of-self c =
     let k =
     subst (λ ps. Whole s.channels s.window s.next rows readings ps) (sym c.file.ensures.places)
     (heard_whole s.channels s.window s.next i Listened rs s.store.rows.now rows s.store.readings.now readings s.store.places.now (whole s) asked.1 ok c.file.ensures.size done) in
-    (k.long, (k.wide, (k.upto, (k.keys, (k.lives, (∣ k.sound ∣₁, tt))))))
+    record { long = k.long; wide = k.wide; upto = k.upto; keys = k.keys; lives = k.lives; sound = ∣ k.sound ∣₁ }
 
 pub returns : goal.returns
 returns c =
     let s = c.args.self.now in
     let i = c.args.index in
-    let asked = c.in-ok-examine-readings.ensures in
+    let asked = c.in_ok-examine_readings.ensures in
     let rs = c.args.readings.now in
     let ok = readings_fine (sparse s) i rs asked.0 in
     let rows = c.file.new.self.rows.now in

@@ -12,12 +12,12 @@ use Rattle.memory.proofs.SparseSelf.{whole}
 use Rattle.memory.proofs.SparseSteps.{Whole, held_used, found_none, put_added, put_whole, carried}
 use Rattle.memory.proofs.sparse.keeps.SparseKeeping.keep_record.Goals as goal
 
-pub returns-in-err-held : goal.returns-in-err-held
-returns-in-err-held c =
+pub returns-in_err-held : goal.returns-in_err-held
+returns-in_err-held c =
     let s = c.args.self.now in
-    let e = c.in-err-held.field-0.0 in
-    let p = err_from_is_err_and c.from-residual.result c.from-residual.ensures.1 in
-    let asked = as_examined (sparse s) c.args.index c.args.resource c.args.bytes c.args.rsrp (Err e) (Err e) c.ranges.rsrp refl c.in-err-held.ensures in
+    let e = c.in_err-held.field-0.0 in
+    let p = err_from_is_err_and c.from_residual.result c.from_residual.ensures.1 in
+    let asked = as_examined (sparse s) c.args.index c.args.resource c.args.bytes c.args.rsrp (Err e) (Err e) c.ranges.rsrp refl c.in_err-held.ensures in
     let some = number_some e in
     rw (p.1, p.2)
     (record {
@@ -26,35 +26,35 @@ returns-in-err-held c =
       refused = λ _. refl;
     })
 
-pub returns-in-default : goal.returns-in-default
-returns-in-default c =
+pub returns-in_default : goal.returns-in_default
+returns-in_default c =
     let s = c.args.self.now in
-    let asked = as_examined (sparse s) c.args.index c.args.resource c.args.bytes c.args.rsrp _ (Ok None) c.ranges.rsrp (ap (λ (o : Option Held). Ok o) c.in-default.is) c.in-ok-held.ensures in
+    let asked = as_examined (sparse s) c.args.index c.args.resource c.args.bytes c.args.rsrp _ (Ok None) c.ranges.rsrp (ap (λ (o : Option Held). Ok o) c.in_default.is) c.in_ok-held.ensures in
     record {
       answer = sym (record_held (sparse s) c.args.index c.args.resource c.args.bytes c.args.rsrp _ asked.0.answer asked.1);
       done = λ e. absurd (omega arith);
       refused = λ _. refl;
     }
 
-pub returns-in-default-free : goal.returns-in-default-free
-returns-in-default-free c =
+pub returns-in_default-free : goal.returns-in_default-free
+returns-in_default-free c =
     let s = c.args.self.now in
-    let asked = as_examined (sparse s) c.args.index c.args.resource c.args.bytes c.args.rsrp _ (Ok (Some c.in-Some.held)) c.ranges.rsrp (ap (λ (o : Option Held). Ok o) c.in-Some.is) c.in-ok-held.ensures in
+    let asked = as_examined (sparse s) c.args.index c.args.resource c.args.bytes c.args.rsrp _ (Ok (Some c.in-Some.held)) c.ranges.rsrp (ap (λ (o : Option Held). Ok o) c.in-Some.is) c.in_ok-held.ensures in
     let k = whole s in
     let full = held_used s.channels s.window s.next s.store.rows.now s.store.readings.now s.store.places.now k.sound.old k.keys k.lives in
     record {
-      answer = sym (record_full (sparse s) c.args.index c.args.resource c.args.bytes c.args.rsrp asked.0.answer asked.1 (full ∙ c.in-default-free.ensures));
+      answer = sym (record_full (sparse s) c.args.index c.args.resource c.args.bytes c.args.rsrp asked.0.answer asked.1 (full ∙ c.in_default-free.ensures));
       done = λ e. absurd (omega arith);
       refused = λ _. refl;
     }
 
-pub invariant-of-self : goal.invariant-of-self
-invariant-of-self c =
+pub invariant_of-self : goal.invariant_of-self
+invariant_of-self c =
     let s = c.args.self.now in
     let i = c.args.index in
     let a = c.args.resource in
     let h = c.in-Some.held in
-    let asked = as_examined (sparse s) i a c.args.bytes c.args.rsrp _ (Ok (Some c.in-Some.held)) c.ranges.rsrp (ap (λ (o : Option Held). Ok o) c.in-Some.is) c.in-ok-held.ensures in
+    let asked = as_examined (sparse s) i a c.args.bytes c.args.rsrp _ (Ok (Some c.in-Some.held)) c.ranges.rsrp (ap (λ (o : Option Held). Ok o) c.in-Some.is) c.in_ok-held.ensures in
     let fair = subst (Fair s.channels a) (sym asked.2) asked.0.fair in
     let quiet = record_quiet (sparse s) i a c.args.bytes c.args.rsrp asked.0.answer in
     let free = found_none s.store.places.now i a asked.1 in
@@ -62,7 +62,7 @@ invariant-of-self c =
     let k =
     carried (λ rows readings. Whole s.channels s.window s.next rows readings qs) c.put.ensures.rows c.put.ensures.readings
     (put_whole s.channels s.window s.next i a h s.store.rows.now s.store.readings.now s.store.places.now qs (whole s) asked.0.inside asked.0.below fair quiet free c.put.ensures.done) in
-    (k.long, (k.wide, (k.upto, (k.keys, (k.lives, (∣ k.sound ∣₁, tt))))))
+    record { long = k.long; wide = k.wide; upto = k.upto; keys = k.keys; lives = k.lives; sound = ∣ k.sound ∣₁ }
 
 pub returns : goal.returns
 returns c =
@@ -70,7 +70,7 @@ returns c =
     let i = c.args.index in
     let a = c.args.resource in
     let h = c.in-Some.held in
-    let asked = as_examined (sparse s) i a c.args.bytes c.args.rsrp _ (Ok (Some c.in-Some.held)) c.ranges.rsrp (ap (λ (o : Option Held). Ok o) c.in-Some.is) c.in-ok-held.ensures in
+    let asked = as_examined (sparse s) i a c.args.bytes c.args.rsrp _ (Ok (Some c.in-Some.held)) c.ranges.rsrp (ap (λ (o : Option Held). Ok o) c.in-Some.is) c.in_ok-held.ensures in
     let fair = subst (Fair s.channels a) (sym asked.2) asked.0.fair in
     let quiet = record_quiet (sparse s) i a c.args.bytes c.args.rsrp asked.0.answer in
     let free = found_none s.store.places.now i a asked.1 in

@@ -8,23 +8,23 @@ use Rattle.memory.proofs.SparseSelf.{whole}
 use Rattle.memory.proofs.SparseSteps.{Whole, written, sent_whole, carried}
 use Rattle.memory.proofs.sparse.keeps.SparseKeeping.mark_sent.Goals as goal
 
-pub invariant-of-self : goal.invariant-of-self
-invariant-of-self c =
+pub invariant_of-self : goal.invariant_of-self
+invariant_of-self c =
     let s = c.args.self.now in
     let i = c.args.index in
-    let asked = c.in-ok-examine-sent.ensures in
+    let asked = c.in_ok-examine_sent.ensures in
     let rows = c.mark.new.self.rows.now in
     let readings = s.store.readings.now in
     let k =
     carried (λ readings ps. Whole s.channels s.window s.next rows readings ps) c.mark.ensures.readings c.mark.ensures.places
     (sent_whole s.channels s.window s.next i Sent s.store.rows.now rows readings s.store.places.now (whole s) asked.1 (from_bare (sparse s) i asked.3) (c.mark.ensures.done s.channels readings)) in
-    (k.long, (k.wide, (k.upto, (k.keys, (k.lives, (∣ k.sound ∣₁, tt))))))
+    record { long = k.long; wide = k.wide; upto = k.upto; keys = k.keys; lives = k.lives; sound = ∣ k.sound ∣₁ }
 
 pub returns : goal.returns
 returns c =
     let s = c.args.self.now in
     let i = c.args.index in
-    let asked = c.in-ok-examine-sent.ensures in
+    let asked = c.in_ok-examine_sent.ensures in
     let rows = c.mark.new.self.rows.now in
     let readings = s.store.readings.now in
     record {
