@@ -1,5 +1,5 @@
 // Finding the candidates of a question.
-ghost use Rattle.std.specs.Prelude.{◌≡◌, ℕ, ◌+◌, ◌-◌, ◌*◌, ◌^◌, ◌<◌, ◌≤◌, true, List, [], ◌∷◌, ◌++◌, map, length};
+ghost use Rattle.std.specs.Prelude.{◌≡◌, ℕ, ◌+◌, ◌-◌, ◌*◌, ◌^◌, ◌<◌, ◌≤◌, true, List, [], ◌∷◌, ◌++◌, map, length, MatchOption, slice_index_or};
 ghost use Rattle.pool.specs.Pools.{meaning};
 ghost use Rattle.rules.specs.Choose.{subframes};
 ghost use Rattle.choosing.specs.Asked.{question_of};
@@ -38,6 +38,13 @@ impl Candidates {
         self.count += 1;
     }
 
+    // How many subframes the candidates lie in.
+    pub fn subframes(&self) -> usize
+        ensures { result ≡ length (slots_of self.now) }
+    {
+        self.count
+    }
+
     // The subframes that the candidates lie in, with their indices.
     pub fn slots(&self) -> &[Slot]
         ensures value { result.now ≡ slots_of self.now }
@@ -58,6 +65,16 @@ impl Candidates {
         ensures { result ≡ length (slots_of self.now) * self.now.width }
     {
         self.count as u32 * u32::from(self.width)
+    }
+
+    // The subframe at a place among them, with its index.
+    pub fn slot(&self, i: usize) -> Option<Slot>
+        ensures { MatchOption result (length (slots_of self.now) ≤ i) (λ s. (i < length (slots_of self.now)) × (s ≡ slice_index_or (slots_of self.now) i origin)) }
+    {
+        if i >= self.count {
+            return None;
+        }
+        Some(self.slots[i])
     }
 }
 

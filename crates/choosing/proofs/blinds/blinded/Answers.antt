@@ -12,14 +12,14 @@ pub loop-k-preserved : goal.loop-k-preserved
 loop-k-preserved g c =
     let m = g.M.Asking.meaning c.args.m.now in
     let p = meaning c.args.pool.now in
-    let low = c.next-index-next.result - c.window.result in
+    let low = c.next_index-next.result - c.window.result in
     let k = c.loop-k.k in
     let apart = c.from-apart.result in
     let turns = c.from-turns.result in
-    marked_both c.args.c.now (λ y. any (λ z. by_index p m apart turns z y) (range_with_len low k)) (by_index p m apart turns (low + k)) (λ y. any (λ z. by_index p m apart turns z y) (range_with_len low (k + 1))) (replicate 100 false) c.loop-k.flags c.mark-index.new.flags
+    marked_both c.args.c.now (λ y. any (λ z. by_index p m apart turns z y) (range_with_len low k)) (by_index p m apart turns (low + k)) (λ y. any (λ z. by_index p m apart turns z y) (range_with_len low (k + 1))) (replicate 100 false) c.loop-k.flags c.mark_index.new.flags
     (λ y. any_more (λ z. by_index p m apart turns z y) low k (low + k) refl)
     c.loop-k.invariant
-    c.mark-index.ensures
+    c.mark_index.ensures
 
 pub returns : goal.returns
 unfolding blinded
@@ -27,10 +27,10 @@ returns g c early fits i l =
     let m = g.M.Asking.meaning c.args.m.now in
     let p = meaning c.args.pool.now in
     let y = index_at c.args.c.now i in
-    let low = c.next-index-next.result - c.window.result in
+    let low = c.next_index-next.result - c.window.result in
     let apart = c.from-apart.result in
     let turns = c.from-turns.result in
-    let n = c.next-index-next.ensures in
+    let n = c.next_index-next.ensures in
     let w = c.window.ensures in
     let e = c.window-k-end.ensures in
     let first : low ≡ m.next - window p = omega arith in

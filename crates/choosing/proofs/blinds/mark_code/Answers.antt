@@ -19,9 +19,9 @@ pub returns : goal.returns
 returns c =
     let a = c.args in
     let p = meaning a.pool.now in
-    marked_same a.c.now (by_turn a.apart a.turns a.z c.from-d.result c.repeats-times.result) (by_one p a.apart a.turns a.z a.g a.code) a.flags.now c.mark-repeats.new.flags
+    marked_same a.c.now (by_turn a.apart a.turns a.z c.from-d.result c.repeats-times.result) (by_one p a.apart a.turns a.z a.g a.code) a.flags.now c.mark_repeats.new.flags
     (λ y.
     ap (λ b. b && any (λ k. turn y a.apart a.turns (a.z + k * distance p a.code)) (range_with_len 1 (repeats p a.code a.g))) (sym c.if-not-allows.ensures)
     ∙ ap (λ n. any (λ k. turn y a.apart a.turns (a.z + k * distance p a.code)) (range_with_len 1 n)) (sym c.repeats-times.ensures.value)
     ∙ ap (λ d. any (λ k. turn y a.apart a.turns (a.z + k * d)) (range_with_len 1 c.repeats-times.result)) (sym (c.from-d.ensures ∙ c.distance.ensures.value)))
-    c.mark-repeats.ensures
+    c.mark_repeats.ensures

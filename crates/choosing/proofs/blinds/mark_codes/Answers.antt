@@ -9,10 +9,10 @@ loop-k-preserved c =
     let a = c.args in
     let k = c.loop-k.k in
     let p = meaning a.pool.now in
-    marked_both a.c.now (by_code p a.apart a.turns a.z a.g k) (by_one p a.apart a.turns a.z a.g (k + 1)) (by_code p a.apart a.turns a.z a.g (k + 1)) a.flags.now c.loop-k.flags c.mark-code.new.flags
+    marked_both a.c.now (by_code p a.apart a.turns a.z a.g k) (by_one p a.apart a.turns a.z a.g (k + 1)) (by_code p a.apart a.turns a.z a.g (k + 1)) a.flags.now c.loop-k.flags c.mark_code.new.flags
     (λ y. any_more (λ code. by_one p a.apart a.turns a.z a.g code y) 1 k (k + 1) (omega arith))
     c.loop-k.invariant
-    c.mark-code.ensures
+    c.mark_code.ensures
 
 pub returns : goal.returns
 returns c =

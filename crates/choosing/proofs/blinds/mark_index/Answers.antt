@@ -1,4 +1,4 @@
-use Rattle.std.proofs.Common.{◌≡◌, ◌-◌, true, false, not, ◌&&◌, sym, ap, ◌∙◌, arith}
+use Rattle.std.proofs.Common.{◌≡◌, ◌-◌, true, false, not, ◌&&◌, sym, ap, ◌∙◌, arith, rules}
 use Rattle.std.proofs.lemmas.Bool.{true≢false}
 use Rattle.rules.specs.Sensing.{listened?}
 use Rattle.rules.proofs.Answers.{from_inside}
@@ -16,7 +16,8 @@ returns-then-eq g c =
     let m = g.M.Asking.meaning a.m.now in
     let p = meaning a.pool.now in
     let s = stated m a.z _ c.in-Ok.ensures in
-    let heard = is_listened_cell (m.cell a.z) c.in-Ok.state s.value c.if-eq.ensures in
+    let is : c.in-Ok.state ≡ Listened = search rules in
+    let heard = is_listened_cell (m.cell a.z) c.in-Ok.state s.value is in
     marked_none a.c.now (by_index p m a.apart a.turns a.z) a.flags.now (λ y. ap (λ b. not b && by_code p a.apart a.turns a.z (m.next - a.z) 12 y) heard)
 
 pub returns : goal.returns
@@ -25,7 +26,8 @@ returns g c =
     let m = g.M.Asking.meaning a.m.now in
     let p = meaning a.pool.now in
     let s = stated m a.z _ c.in-Ok.ensures in
-    let deaf = not_listened (m.cell a.z) c.in-Ok.state s.value c.if-eq.ensures in
-    marked_same a.c.now (by_code p a.apart a.turns a.z (c.next-index.result - a.z) 12) (by_index p m a.apart a.turns a.z) a.flags.now c.mark-codes.new.flags
-    (λ y. ap (λ b. not b && by_code p a.apart a.turns a.z (m.next - a.z) 12 y) deaf ∙ ap (λ n. by_code p a.apart a.turns a.z (n - a.z) 12 y) (sym c.next-index.ensures))
-    c.mark-codes.ensures
+    let not_is : c.in-Ok.state ≡ Listened → ⊥ = search rules in
+    let deaf = not_listened (m.cell a.z) c.in-Ok.state s.value not_is in
+    marked_same a.c.now (by_code p a.apart a.turns a.z (c.next_index.result - a.z) 12) (by_index p m a.apart a.turns a.z) a.flags.now c.mark_codes.new.flags
+    (λ y. ap (λ b. not b && by_code p a.apart a.turns a.z (m.next - a.z) 12 y) deaf ∙ ap (λ n. by_code p a.apart a.turns a.z (n - a.z) 12 y) (sym c.next_index.ensures))
+    c.mark_codes.ensures

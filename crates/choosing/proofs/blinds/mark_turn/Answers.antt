@@ -7,11 +7,11 @@ loop-i-preserved c =
     let i = c.loop-i.i in
     let long = c.loop-i.invariant.2 in
     let few = c.args.c.now.few in
-    let v : Bool = get_or xs i false || c.is-turn-here.result in
+    let v : Bool = get_or xs i false || c.is_turn-here.result in
     let lt : i < length xs = omega arith in (
       below_more _ _
           (λ k h. let ne : k ≢ i = omega arith in get_or-set_other xs i k v false ne ∙ c.loop-i.invariant.0 k h)
-          (get_or-set_same xs i v false lt ∙ ap (λ b. b || c.is-turn-here.result) (c.loop-i.invariant.1 i (omega arith)) ∙ ap (λ b. get_or c.args.flags.now i false || b) c.is-turn-here.ensures),
+          (get_or-set_same xs i v false lt ∙ ap (λ b. b || c.is_turn-here.result) (c.loop-i.invariant.1 i (omega arith)) ∙ ap (λ b. get_or c.args.flags.now i false || b) c.is_turn-here.ensures),
       (λ j h. let ne : j ≢ i = omega arith in get_or-set_other xs i j v false ne ∙ c.loop-i.invariant.1 j (omega arith)),
       length-set xs i v ∙ long,
     )
