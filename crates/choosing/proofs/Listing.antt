@@ -16,7 +16,6 @@ use Rattle.choosing.specs.Found.{slots_of, slots_from, pool_index}
 use Rattle.choosing.specs.declared.Candidates.{Candidates}
 use Rattle.std.proofs.lemmas.Nat.{mul-le}
 use Rattle.choosing.specs.Slots.{slot_at}
-use Rattle.choosing.specs.declared.Slot.{Slot}
 
 module _ {X : Type 0} (f : ℕ → X) (g : ℕ → Bool) where
   more : (a n : ℕ) → map f (filter g (range_with_len a (suc n))) ≡ map f (filter g (range_with_len a n)) ++ cond (g (a + n)) (f (a + n) ∷ []) []

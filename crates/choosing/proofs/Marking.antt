@@ -1,5 +1,5 @@
 -- Marks that are added up. Assumes nothing.
-use Rattle.std.proofs.Common.{◌≡◌, ℕ, zero, suc, ◌+◌, ◌<◌, Bool, true, false, ◌||◌, List, [], ◌∷◌, get_or, replicate, sym, refl, ap, ◌∙◌, add-zero, add-one, arith}
+use Rattle.std.proofs.Common.{◌≡◌, ℕ, zero, suc, ◌+◌, Bool, true, false, ◌||◌, List, get_or, replicate, sym, refl, ap, ◌∙◌, add-zero, add-one, arith}
 use Rattle.std.specs.List.{range_with_len}
 use Rattle.rules.specs.Counting.{any}
 use Rattle.rules.specs.Sensing.{Cell, blank, listened, sent, Mark, is_blank, is_listened, is_sent, mark, listened?}

@@ -1,6 +1,4 @@
 -- What a question of the code means. Assumes nothing.
-use Rattle.std.specs.Prelude.{ℕ, Bool, ◌&&◌, leb, List, [], ◌∷◌}
-use Rattle.rules.specs.Calendar.{Pool, allowed}
 use Rattle.rules.specs.Choose.{Question as Meant}
 use Rattle.choosing.specs.declared.Question.{Question}
 

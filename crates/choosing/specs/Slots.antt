@@ -1,5 +1,5 @@
 -- The subframes of candidates, with their indices. Assumes nothing.
-use Rattle.std.specs.Prelude.{ℕ, List, map, take}
+use Rattle.std.specs.Prelude.{ℕ, List, take}
 use Rattle.rules.specs.Calendar.{Pool, index}
 use Rattle.choosing.specs.declared.Slot.{Slot}
 

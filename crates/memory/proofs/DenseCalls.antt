@@ -1,6 +1,6 @@
 -- Each call of a dense memory: it does what it says, and the memory is sound still. Assumes nothing.
-use Rattle.std.proofs.Common.{◌≡◌, ℕ, ◌+◌, ◌*◌, ◌<◌, ◌≤◌, true, List, length, get_or, Some, None, Option, sym, refl, ap, ◌∙◌, subst, mul-le-mul_right, one-mul, arith}
-use Rattle.rules.specs.Sensing.{Meaning, Sound, Held as Meant, Inside, blank, listened, sent, Fair, Moved, Added, Changed, Nothing, New, readings_ok, held_count}
+use Rattle.std.proofs.Common.{◌≡◌, ℕ, ◌+◌, ◌*◌, ◌<◌, ◌≤◌, true, List, length, get_or, None, Option, refl, mul-le-mul_right, one-mul, arith}
+use Rattle.rules.specs.Sensing.{Meaning, Sound, Held as Meant, listened, sent, Fair, Moved, Added, Changed, Nothing, readings_ok, held_count}
 use Rattle.rules.proofs.HeldCount.{held_count_le}
 use Rattle.rules.proofs.Soundness.{moved_sound, added_sound, listened_sound, sent_sound}
 use Rattle.sensing.specs.declared.Held.{Held}

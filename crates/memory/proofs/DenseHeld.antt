@@ -1,15 +1,14 @@
 -- What a write to rows and places leaves of the records. Assumes nothing.
-use Rattle.std.proofs.Common.{◌≡◌, ℕ, ◌+◌, ◌-◌, ◌*◌, ◌/◌, ◌%◌, ◌<◌, ◌≤◌, Bool, true, false, cond, not, eqb, ◌⊎◌, List, length, get_or, set, Some, None, Option, sym, refl, ap, ◌∙◌, subst, inl, inr, ⊎_elim, arith}
+use Rattle.std.proofs.Common.{◌≡◌, ℕ, ◌+◌, ◌*◌, ◌/◌, ◌%◌, ◌<◌, ◌≤◌, true, false, cond, eqb, ◌⊎◌, List, length, get_or, None, Option, sym, refl, ap, ◌∙◌, subst, inl, inr, ⊎_elim, arith}
 use Rattle.std.proofs.lemmas.Nat.{div-mul-add, mod-mul-add}
-use Rattle.std.proofs.lemmas.List.{get_or-set_same, get_or-set_other}
 use Rattle.std.proofs.lemmas.Bool.{cases_lt, cases_Bool, cases_eq, cond-true, cond-false, eq-eqb, ne_eqb, eqb-true}
 use Rattle.rules.specs.Sensing.{Held as Meant}
-use Rattle.sensing.specs.Memories.{option_held_of, held_of}
+use Rattle.sensing.specs.Memories.{option_held_of}
 use Rattle.sensing.specs.declared.Held.{Held}
 use Rattle.sensing.specs.declared.State.TheVariants.{Blank}
 use Rattle.memory.specs.declared.rows.Row.{Row}
-use Rattle.memory.specs.RowCells.{bare_row, row_of, row_at, cell_at, claimed, Near, Upto, Cleared, Claimed}
-use Rattle.memory.proofs.RowCells.{slots_apart, slot_below, block_below, blocks_apart, row_here, row_other, upto}
+use Rattle.memory.specs.RowCells.{row_of, row_at, claimed, Upto, Claimed}
+use Rattle.memory.proofs.RowCells.{slots_apart, slot_below, blocks_apart, row_here, row_other, upto}
 use Rattle.memory.specs.DensePlaces.{held_at, Owned, Upheld}
 
 -- the record of an index, by the stamp of its row and what is in its place

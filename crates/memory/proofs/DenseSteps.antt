@@ -1,15 +1,15 @@
 -- What each write does to a dense memory. Assumes nothing.
-use Rattle.std.proofs.Common.{◌≡◌, ℕ, ◌+◌, ◌*◌, ◌%◌, ◌<◌, ◌≤◌, List, length, get_or, set, Some, None, Option, sym, refl, ap, ◌∙◌, subst, ⊎_elim, arith}
+use Rattle.std.proofs.Common.{◌≡◌, ℕ, ◌+◌, ◌*◌, ◌%◌, ◌<◌, ◌≤◌, List, length, set, Some, None, Option, sym, refl, ap, ◌∙◌, subst, ⊎_elim, arith}
 use Rattle.std.proofs.lemmas.List.{get_or-set_same, get_or-set_other}
 use Rattle.std.proofs.lemmas.Bool.{cases_eq}
-use Rattle.rules.specs.Sensing.{Cell, Frame, Added, Changed}
+use Rattle.rules.specs.Sensing.{Cell, Added, Changed}
 use Rattle.sensing.specs.Memories.{option_held_of, held_of}
 use Rattle.sensing.specs.declared.Held.{Held}
 use Rattle.sensing.specs.declared.State.{State}
 use Rattle.memory.specs.declared.rows.Row.{Row}
 use Rattle.memory.specs.RowCells.{row_at, row_of, cell_at, Near, Written}
 use Rattle.memory.proofs.RowCells.{slots_apart, block_below, row_here, row_other, upto}
-use Rattle.memory.specs.DensePlaces.{held_at, meant_by, Owned, Upheld}
+use Rattle.memory.specs.DensePlaces.{meant_by, Owned, Upheld}
 use Rattle.memory.proofs.DenseHeld.{held_same, held_stamped, place_one}
 
 near : (w next i j : ℕ) → next ≤ i + w → i ≤ next → next ≤ j + w → j ≤ next → Near w i j

@@ -1,13 +1,13 @@
 -- As many places are taken as records are found. Assumes nothing.
-use Rattle.std.proofs.Common.{◌≡◌, ℕ, zero, suc, ◌+◌, ◌-◌, ◌<◌, ◌≤◌, Bool, true, false, cond, not, ◌&&◌, eqb, ltb, leb, ◌⊎◌, List, [], ◌∷◌, is_some, Some, None, Option, sym, refl, ap, ◌∙◌, subst, inl, inr, ⊎_elim, add-one, arith}
-use Rattle.std.proofs.lemmas.Bool.{cases_Bool, cases_eq, cases_lt, and_parts, eq-eqb, ne_eqb, ltb-true, leb-true, cond-true, cond-false, not-true}
+use Rattle.std.proofs.Common.{◌≡◌, ℕ, zero, suc, ◌+◌, ◌-◌, ◌<◌, ◌≤◌, Bool, true, false, cond, ◌&&◌, eqb, List, [], ◌∷◌, is_some, Some, None, Option, refl, ap, ◌∙◌, subst, ⊎_elim, arith}
+use Rattle.std.proofs.lemmas.Bool.{cases_eq, and_parts, eq-eqb, ne_eqb, ltb-true, leb-true, not-true}
 use Rattle.rules.specs.Counting.{one, count_below}
 use Rattle.rules.specs.Sensing.{sum_below}
-use Rattle.rules.proofs.Counts.{count_split, count_same}
+use Rattle.rules.proofs.Counts.{count_split}
 use Rattle.sensing.specs.declared.Held.{Held}
 use Rattle.sensing.specs.Memories.{option_held_of}
 use Rattle.memory.specs.declared.entries.Entry.{Entry}
-use Rattle.memory.specs.EntryPlaces.{of, find, apart, within, live, used}
+use Rattle.memory.specs.EntryPlaces.{of, find, apart, live, used}
 use Rattle.memory.proofs.EntryPutting.{of_same}
 
 -- how many of the resources below n at the w indices pass

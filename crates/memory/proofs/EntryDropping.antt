@@ -1,9 +1,9 @@
 -- The entries from an index on, and no entries. Assumes nothing.
-use Rattle.std.proofs.Common.{◌≡◌, ℕ, zero, suc, ◌+◌, ◌<◌, ◌≤◌, Bool, true, false, cond, not, ◌&&◌, eqb, ltb, leb, List, [], ◌∷◌, map, length, get_or, set, is_some, Some, None, Option, sym, refl, ap, ◌∙◌, subst, ⊎_elim, arith}
-use Rattle.std.proofs.lemmas.Bool.{cases_Bool, and_parts, and_from, ltb-true, ltb-false, lt-ltb, le-ltb, leb-true, le-leb, cond-true, cond-false, true≢false}
+use Rattle.std.proofs.Common.{◌≡◌, ℕ, suc, ◌<◌, ◌≤◌, Bool, true, false, cond, not, ◌&&◌, ltb, leb, List, [], ◌∷◌, map, length, get_or, is_some, Some, None, Option, sym, refl, ap, ◌∙◌, ⊎_elim, arith}
+use Rattle.std.proofs.lemmas.Bool.{cases_Bool, and_parts, and_from, ltb-false, leb-true, le-leb, cond-true, cond-false}
 use Rattle.sensing.specs.declared.Held.{Held}
 use Rattle.memory.specs.declared.entries.Entry.{Entry}
-use Rattle.memory.specs.EntryPlaces.{of, find, apart, within, live, used, kept_from, Dropped, Emptied}
+use Rattle.memory.specs.EntryPlaces.{of, find, apart, within, live, kept_from, Dropped, Emptied}
 use Rattle.memory.proofs.EntryPutting.{of_same, some_none}
 
 cond_same : {A : Type 0} (b : Bool) (x : A) → cond b x x ≡ x

@@ -1,8 +1,8 @@
 -- Where nothing is found. Assumes nothing.
-use Rattle.std.proofs.Common.{◌≡◌, ℕ, ◌<◌, ◌≤◌, Bool, true, false, ◌&&◌, ltb, leb, List, [], ◌∷◌, Some, None, Option, sym, refl, ap, ◌∙◌, arith}
+use Rattle.std.proofs.Common.{◌≡◌, ℕ, ◌<◌, true, ◌&&◌, ltb, leb, List, [], ◌∷◌, Some, None, Option, refl, ◌∙◌, arith}
 use Rattle.std.proofs.lemmas.Bool.{and_parts, leb-true, cond-false}
 use Rattle.memory.specs.declared.entries.Entry.{Entry}
-use Rattle.memory.specs.EntryPlaces.{of, find, within, live}
+use Rattle.memory.specs.EntryPlaces.{find, within, live}
 use Rattle.memory.proofs.EntryPutting.{of_other}
 
 -- at an index past next

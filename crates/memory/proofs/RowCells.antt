@@ -1,10 +1,10 @@
 -- Two indices of a window stand in two rows, and what a write to one row leaves of the others. Assumes nothing.
-use Rattle.std.proofs.Common.{◌≡◌, ℕ, zero, suc, ◌+◌, ◌-◌, ◌*◌, ◌/◌, ◌%◌, ◌<◌, ◌≤◌, Bool, true, false, cond, eqb, ◌⊎◌, List, [], ◌++◌, length, get_or, take, drop, set, Some, None, sym, refl, ap, ◌∙◌, subst, ⊎_elim, mul-le-mul_right, mod-lt, suc-mul, add-mul, one-mul, div-add-mod', arith}
+use Rattle.std.proofs.Common.{◌≡◌, ℕ, ◌+◌, ◌-◌, ◌*◌, ◌/◌, ◌%◌, ◌<◌, ◌≤◌, Bool, true, false, cond, eqb, List, ◌++◌, length, get_or, take, drop, set, Some, sym, refl, ap, ◌∙◌, subst, ⊎_elim, mul-le-mul_right, mod-lt, suc-mul, add-mul, one-mul, div-add-mod', arith}
 use lib.Seq.{paste}
 use Rattle.std.proofs.lemmas.List.{get_or-set_same, get_or-set_other, drop-take, drop-drop, drop_at, get_or-take, get_or-drop, take-append-le, take-take, take_all, length-take-le, length-append, length-set, set-get_or}
 use Rattle.std.proofs.lemmas.List.Edits.{take-paste, drop-paste}
-use Rattle.std.proofs.lemmas.Bool.{cases_lt, cases_Bool, cases_eq, cond-true, cond-false, eq-eqb, ne_eqb, eqb-true}
-use Rattle.rules.specs.Sensing.{Cell, blank, listened, sent, mark, is_listened, reading_in}
+use Rattle.std.proofs.lemmas.Bool.{cases_lt, cases_Bool, cases_eq, cond-true, cond-false, eq-eqb, ne_eqb}
+use Rattle.rules.specs.Sensing.{Cell, blank, listened, mark, is_listened, reading_in}
 use Rattle.sensing.specs.Memories.{mark_of}
 use Rattle.sensing.specs.declared.State.{State}
 use Rattle.sensing.specs.declared.State.TheVariants.{Blank, Listened, Sent}

@@ -1,8 +1,8 @@
 -- What one call does to a sparse memory. Assumes nothing.
-use Rattle.std.proofs.Common.{◌≡◌, ℕ, ◌+◌, ◌-◌, ◌*◌, ◌%◌, ◌<◌, ◌≤◌, Bool, true, false, cond, ltb, List, length, set, Some, None, Option, sym, refl, ap, ◌∙◌, subst, arith}
+use Rattle.std.proofs.Common.{◌≡◌, ℕ, ◌+◌, ◌-◌, ◌*◌, ◌%◌, ◌<◌, ◌≤◌, Bool, true, false, cond, ltb, List, length, Some, None, Option, sym, refl, ap, ◌∙◌, subst, arith}
 use Rattle.std.proofs.lemmas.List.{length-map, length-set}
 use Rattle.std.proofs.lemmas.Bool.{le-ltb, lt-ltb, le-leb, and_from, cond-false}
-use Rattle.rules.specs.Sensing.{Meaning, Held as Meant, Cell, blank, listened, sent, Inside, Sound, Fair, New, Nothing, Moved, Added, Changed, readings_ok, held_count}
+use Rattle.rules.specs.Sensing.{Cell, listened, sent, Inside, Sound, Fair, New, Moved, Added, Changed, readings_ok, held_count}
 use Rattle.rules.proofs.Soundness.{moved_sound, added_sound, listened_sound, sent_sound}
 use Rattle.sensing.specs.Memories.{held_of, option_held_of}
 use Rattle.sensing.specs.declared.Held.{Held}

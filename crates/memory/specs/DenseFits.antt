@@ -1,5 +1,5 @@
 -- What a dense memory can be made of. Assumes nothing.
-use Rattle.std.specs.Prelude.{ℕ, ◌+◌, ◌*◌, ◌<◌, ◌≤◌, Bool, ◌&&◌, ltb, leb}
+use Rattle.std.specs.Prelude.{ℕ, ◌+◌, ◌*◌, ◌<◌, ◌≤◌}
 
 -- n sub-channels and a window of w, and slices of enough rows, readings and places
 pub record Fits (n w rows readings places : ℕ) : Type 0 where

@@ -1,5 +1,5 @@
 -- What rows, readings and places hold together. Assumes nothing.
-use Rattle.std.specs.Prelude.{◌≡◌, ℕ, ◌+◌, ◌*◌, ◌%◌, ◌<◌, ◌≤◌, cond, List, length, Some, None, Option, ◌==◌, slice_index_or}
+use Rattle.std.specs.Prelude.{◌≡◌, ℕ, ◌+◌, ◌*◌, ◌%◌, ◌<◌, ◌≤◌, cond, List, length, None, Option, ◌==◌, slice_index_or}
 use Rattle.rules.specs.Sensing.{Meaning, Cell, Held as Meant, Added, Changed}
 use Rattle.sensing.specs.Memories.{option_held_of}
 use Rattle.sensing.specs.declared.Held.{Held}

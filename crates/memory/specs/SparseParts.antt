@@ -1,5 +1,5 @@
 -- What rows, readings and places hold together. Assumes nothing.
-use Rattle.std.specs.Prelude.{ℕ, ◌+◌, ◌*◌, ◌<◌, ◌≤◌, List, length, Option}
+use Rattle.std.specs.Prelude.{ℕ, ◌+◌, ◌*◌, ◌≤◌, List, length, Option}
 use Rattle.rules.specs.Sensing.{Meaning, Held as Meant}
 use Rattle.sensing.specs.Memories.{option_held_of}
 use Rattle.memory.specs.RowCells.{cell_at}

@@ -1,5 +1,5 @@
 -- What every pool of the code keeps. Assumes nothing.
-use Rattle.std.proofs.Common.{◌≡◌, ℕ, ◌≤◌, arith}
+use Rattle.std.proofs.Common.{◌≡◌, ◌≤◌, arith}
 use Rattle.std.proofs.lemmas.List.FromFn.{length-map-range_with_len}
 use Rattle.rules.specs.Calendar.{size}
 use Rattle.rules.specs.Closed.{word_bit}

@@ -1,8 +1,8 @@
 -- What the closed forms say of the definitions, as the code needs it. Assumes nothing.
-use Rattle.std.proofs.Common.{◌≡◌, ℕ, suc, ◌+◌, ◌-◌, ◌*◌, ◌/◌, ◌%◌, ◌<◌, ◌≤◌, Bool, true, false, cond, not, ◌&&◌, eqb, length, sym, refl, ap, ◌∙◌, ⊎_elim, mul-le-mul_right, mod-lt, arith}
+use Rattle.std.proofs.Common.{◌≡◌, ℕ, ◌+◌, ◌-◌, ◌<◌, ◌≤◌, true, false, not, ◌&&◌, eqb, sym, ap, ◌∙◌, ⊎_elim, arith}
 use Rattle.std.proofs.lemmas.Bool.{cases_Bool, eq-eqb, ne_eqb}
 use Rattle.rules.specs.Counting.{one, count_below}
-use Rattle.rules.specs.Calendar.{Pool, size, remains, rank, remaining, left_over, reserved, kept, in_set, cycle, index}
+use Rattle.rules.specs.Calendar.{Pool, remains, rank, remaining, left_over, reserved, kept}
 use Rattle.rules.specs.Closed.{reserved_before}
 use Rattle.rules.proofs.Counts.{count_le}
 use Rattle.rules.proofs.Limits.{Limits}

@@ -1,12 +1,12 @@
 -- Choosing's tests are its sentences. Assumes nothing.
-use Rattle.std.proofs.Common.{◌≡◌, ℕ, ◌+◌, ◌-◌, ◌*◌, ◌<◌, ◌≤◌, Bool, true, false, cond, not, ◌&&◌, ◌||◌, eqb, ltb, leb, ◌⊎◌, Some, None, Option, sym, refl, ap, ◌∙◌, subst, inl, inr, ⊎_elim, arith}
+use Rattle.std.proofs.Common.{◌≡◌, ℕ, ◌+◌, ◌-◌, ◌*◌, ◌<◌, ◌≤◌, true, false, cond, not, ◌&&◌, eqb, leb, Some, None, Option, sym, refl, ap, ◌∙◌, inl, inr, ⊎_elim, arith}
 use Rattle.std.specs.List.{range_with_len}
-use Rattle.std.proofs.lemmas.Bool.{cases_Bool, eqb-false, and_parts, and_from, leb-true, le-leb, ltb-true, lt-ltb, eqb-true, eq-eqb, ne_eqb, or_cases, or_left, or_right, not-true, not_from_false, cases_eq, cases_lt, true≢false}
+use Rattle.std.proofs.lemmas.Bool.{cases_Bool, eqb-false, and_parts, and_from, leb-true, le-leb, ltb-true, lt-ltb, eqb-true, eq-eqb, ne_eqb, or_cases, or_left, or_right, not-true, not_from_false, cases_lt, true≢false}
 use Rattle.rules.specs.Counting.{any}
 use Rattle.rules.specs.Calendar.{Pool, window, distance, allowed}
 use Rattle.rules.specs.Format.{Record, Uses, Partner}
-use Rattle.rules.specs.Sensing.{Meaning, Held, Fair, listened?}
-use Rattle.rules.specs.Choose.{Question, Place, interval, repeats, window_of, Turn, turn, meets, blinds, blinded, Blinded, share, partner_of, taken_by_partner, takes, held_reserves, reserved_at, Reserved, level_of, above}
+use Rattle.rules.specs.Sensing.{Meaning, Held, listened?}
+use Rattle.rules.specs.Choose.{Question, Place, interval, repeats, Turn, turn, meets, blinds, blinded, Blinded, share, partner_of, taken_by_partner, takes, held_reserves, reserved_at, Reserved, level_of, above}
 use Rattle.rules.specs.ChooseLaws.{FairWindow}
 use Rattle.rules.proofs.Turns.{turn_is, is_turn, some_counted, counted_some}
 

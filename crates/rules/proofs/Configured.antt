@@ -1,10 +1,9 @@
 -- A pool that was configured keeps the limits. Assumes nothing.
-use Rattle.std.proofs.Common.{◌≡◌, ℕ, ◌+◌, ◌-◌, ◌%◌, ◌<◌, ◌≤◌, Bool, true, false, cond, not, ◌&&◌, eqb, ltb, leb, List, [], ◌∷◌, map, length, get_or, take, drop, sym, refl, ap, ◌∙◌, arith, length-take}
+use Rattle.std.proofs.Common.{◌≡◌, ℕ, ◌-◌, ◌<◌, ◌≤◌, Bool, true, false, not, ◌&&◌, eqb, ltb, leb, List, [], ◌∷◌, map, length, drop, refl, ap, ◌∙◌, arith, length-take}
 use Rattle.std.specs.List.{range_with_len}
 use Rattle.std.proofs.lemmas.List.FromFn.{length-map-range_with_len, get_or-map-range_with_len, fill_by_all}
 use Rattle.std.proofs.lemmas.Bool.{and_parts, leb-true, le-leb, ltb-true}
 use Rattle.rules.specs.Counting.{any, every, among, first_no}
-use Rattle.rules.specs.Calendar.{Pool, size, cycle}
 use Rattle.rules.specs.Closed.{word_bit}
 use Rattle.rules.proofs.Limits.{every_among}
 use Rattle.rules.proofs.Lists.{every_at}

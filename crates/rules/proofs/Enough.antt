@@ -3,7 +3,7 @@ use Rattle.std.proofs.Common.{◌≡◌, ℕ, ◌+◌, ◌*◌, ◌<◌, ◌≤�
 use Rattle.std.proofs.lemmas.Bool.{cases_Bool, cases_lt, leb-true, le-leb, true≢false}
 use Rattle.rules.specs.Calendar.{Pool}
 use Rattle.rules.specs.Sensing.{Meaning}
-use Rattle.rules.specs.Choose.{Question, Place, candidates, survives, survivors, enough, Fewest}
+use Rattle.rules.specs.Choose.{Question, candidates, survives, survivors, enough, Fewest}
 use Rattle.rules.specs.ChooseLaws.{FairWindow}
 use Rattle.rules.proofs.Raises.{survives_more, survives_last}
 

@@ -1,7 +1,7 @@
 -- The fields of a control record can be read back from its word, and nothing else can. Assumes nothing.
 use Rattle.std.proofs.Common.{◌≡◌, ℕ, ◌+◌, ◌-◌, ◌*◌, ◌/◌, ◌%◌, ◌^◌, ◌<◌, ◌≤◌, sym, refl, ap, ◌∙◌, mul-le-mul_right, mul_assoc, add-mul, div-add-mod', mul_right_comm, div-one, arith}
 use Rattle.std.proofs.lemmas.Nat.{pow_pos, pow-add, shr-shr, div-mul-add, mod-mul-add}
-use Rattle.rules.specs.Format.{Record, riv, width, bits, placed, priority_of, code_of, riv_of, gap_of, mcs_of, again_of, rest_of, word, split, Has, Within}
+use Rattle.rules.specs.Format.{Record, riv, width, bits, placed, priority_of, code_of, riv_of, gap_of, mcs_of, again_of, rest_of, word, Has, Within}
 use Rattle.rules.proofs.Width.{width_small, riv_fits}
 
 -- a word by its parts: y is what stands between the code and the zeros, z the value of its lowest bit, q that of the

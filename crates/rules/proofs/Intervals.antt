@@ -1,8 +1,7 @@
 -- The allowed intervals are the ones of the mask. Assumes nothing.
-use Rattle.std.proofs.Common.{◌≡◌, ℕ, ◌+◌, ◌-◌, ◌*◌, ◌/◌, ◌%◌, ◌^◌, ◌<◌, ◌≤◌, Bool, true, ◌&&◌, eqb, leb, sym, refl, ap, ◌∙◌, arith}
+use Rattle.std.proofs.Common.{◌≡◌, ℕ, ◌+◌, ◌-◌, ◌/◌, ◌%◌, ◌^◌, ◌<◌, eqb, ◌∙◌, arith}
 use lib.Count.{ones}
 use Rattle.std.proofs.lemmas.Bool.{le-leb}
-use Rattle.rules.specs.Counting.{count_below}
 use Rattle.rules.specs.Calendar.{Pool, allowed, intervals}
 use Rattle.rules.proofs.Bits.{ones_counted}
 use Rattle.rules.proofs.Counts.{count_same}

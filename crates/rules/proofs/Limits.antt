@@ -1,7 +1,7 @@
 -- What the limits of a pool say, one by one. Assumes nothing.
-use Rattle.std.proofs.Common.{◌≡◌, ℕ, zero, suc, ◌+◌, ◌*◌, ◌%◌, ◌<◌, ◌≤◌, Bool, true, false, not, ◌&&◌, ◌||◌, eqb, ltb, leb, List, [], ◌∷◌, length, sym, refl, ap, ◌∙◌, ⊎_elim, arith}
+use Rattle.std.proofs.Common.{◌≡◌, ℕ, zero, suc, ◌%◌, ◌<◌, ◌≤◌, Bool, true, eqb, ltb, leb, List, [], ◌∷◌, length, sym, refl, ap, ◌∙◌, ⊎_elim, arith}
 use Rattle.std.proofs.lemmas.Bool.{and_parts, and_from, or_cases, leb-true, ltb-true, eqb-true, cases_lt, true≢false}
-use Rattle.rules.specs.Counting.{all_below, any, every, among, distinct}
+use Rattle.rules.specs.Counting.{all_below, every, among, distinct}
 use Rattle.rules.specs.Calendar.{Pool, positions, size}
 use Rattle.rules.specs.Configure.{within, sizes, offset_ok}
 

@@ -1,6 +1,6 @@
 -- The orders of means, of places and of choosing. Assumes nothing.
-use Rattle.std.proofs.Common.{◌≡◌, ℕ, ◌+◌, ◌*◌, ◌<◌, ◌≤◌, Bool, true, false, cond, not, ◌&&◌, ◌||◌, eqb, ltb, ◌⊎◌, length, Some, None, Option, sym, refl, ap, ◌∙◌, subst, inl, inr, ⊎_elim, mul-le-mul_right, mul_right_comm, le_of_mul-le-mul_right, arith}
-use Rattle.std.proofs.lemmas.Bool.{ltb-true, ltb-false, lt-ltb, le-ltb, eqb-true, eqb-false, eq-eqb, ne_eqb, true≢false, or_parts, or_from, or_left, or_right, and_left, and_right, and_from, and_parts, cases_Bool, cases_order, not_from_true, not_from_false, not-true}
+use Rattle.std.proofs.Common.{◌≡◌, ℕ, ◌*◌, ◌<◌, ◌≤◌, Bool, true, false, not, ◌&&◌, ◌||◌, eqb, ◌⊎◌, length, Some, None, Option, sym, refl, ap, ◌∙◌, inl, inr, ⊎_elim, mul-le-mul_right, mul_right_comm, le_of_mul-le-mul_right, arith}
+use Rattle.std.proofs.lemmas.Bool.{ltb-true, ltb-false, le-ltb, eqb-false, true≢false, or_parts, or_from, or_left, or_right, and_left, and_right, and_from, and_parts, cases_Bool, cases_order, not_from_true, not_from_false, not-true}
 use Rattle.std.proofs.lemmas.Bool.Decides.{nat_tests}
 use Rattle.rules.specs.Calendar.{Pool}
 use Rattle.rules.specs.Choose.{Question, Place, Fraction, samples, mean, lower, earlier, ahead}

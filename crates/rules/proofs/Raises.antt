@@ -1,12 +1,12 @@
 -- How raises act. Assumes nothing.
-use Rattle.std.proofs.Common.{◌≡◌, ℕ, ◌+◌, ◌-◌, ◌*◌, ◌<◌, ◌≤◌, Bool, true, false, cond, not, ◌&&◌, eqb, ltb, leb, ℤ, pos, negsuc, ◌+ℤ◌, ◌-ℤ◌, Some, None, Option, sym, refl, ap, ◌∙◌, ⊎_elim, arith}
+use Rattle.std.proofs.Common.{◌≡◌, ℕ, ◌+◌, ◌-◌, ◌*◌, ◌≤◌, true, false, cond, not, ◌&&◌, eqb, ℤ, pos, ◌+ℤ◌, Some, None, Option, sym, refl, ap, ◌∙◌, ⊎_elim, arith}
 use lib.Signed.{lt_z, le_z}
 use Rattle.std.specs.List.{range_with_len}
 use Rattle.std.proofs.lemmas.Int.{ints}
-use Rattle.std.proofs.lemmas.Bool.{and_parts, and_from, and_left, cases_Bool, not-true, not_from_false, true≢false, eqb-true, eqb-false}
+use Rattle.std.proofs.lemmas.Bool.{and_parts, and_from, cases_Bool, not-true, not_from_false, true≢false, eqb-false}
 use Rattle.rules.specs.Counting.{any}
 use Rattle.rules.specs.Calendar.{Pool, window, distance, threshold}
-use Rattle.rules.specs.Sensing.{Meaning, Held, Fair, rsrp_ok}
+use Rattle.rules.specs.Sensing.{Meaning, Held, Fair}
 use Rattle.rules.specs.Choose.{Question, Place, interval, repeats, takes, held_reserves, reserved_at, blinded, survives, level_of, above}
 use Rattle.rules.specs.ChooseLaws.{FairHeld, FairWindow}
 use Rattle.rules.proofs.Turns.{any_weaker, any_counted, any_below}

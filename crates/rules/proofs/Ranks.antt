@@ -1,10 +1,9 @@
 -- The rank of a subframe in closed form. Assumes nothing.
-use Rattle.std.proofs.Common.{◌≡◌, ℕ, zero, suc, ◌+◌, ◌-◌, ◌*◌, ◌/◌, ◌%◌, ◌<◌, ◌≤◌, Bool, true, false, not, ◌&&◌, ◌||◌, eqb, ltb, leb, List, [], ◌∷◌, length, sum_by, sym, refl, ap, ◌∙◌, ⊎_elim, arith}
+use Rattle.std.proofs.Common.{◌≡◌, ℕ, zero, suc, ◌+◌, ◌-◌, ◌*◌, ◌/◌, ◌%◌, ◌≤◌, Bool, true, false, ◌&&◌, ◌||◌, eqb, ltb, leb, List, [], ◌∷◌, length, sym, refl, ap, ◌∙◌, ⊎_elim, arith}
 use Rattle.std.proofs.lemmas.List.Sums.{sum_by-cons}
 use Rattle.std.proofs.lemmas.Bool.{and_parts, or_cases, ltb-true, eqb-true, cases_Bool, not-true, true≢false}
-use Rattle.rules.specs.Counting.{one, count_below, all_below, any, every, among, distinct}
-use Rattle.rules.specs.Calendar.{Pool, positions, size, remains, rank, remaining}
-use Rattle.rules.specs.Configure.{within, sizes}
+use Rattle.rules.specs.Counting.{one, count_below, every, among, distinct}
+use Rattle.rules.specs.Calendar.{Pool, positions, remains, rank, remaining}
 use Rattle.rules.specs.Closed.{positions_below, uplink_before, sync_before}
 use Rattle.rules.proofs.Counts.{count_round, count_split, count_offset}
 use Rattle.rules.proofs.Limits.{Limits, all_at, every_among}

@@ -1,17 +1,15 @@
 -- The law of a report. Assumes nothing.
-use Rattle.std.proofs.Common.{◌≡◌, ℕ, zero, suc, ◌+◌, ◌-◌, ◌*◌, ◌/◌, ◌<◌, ◌≤◌, Bool, true, false, cond, ◌&&◌, leb, ◌⊎◌, List, [], ◌∷◌, ◌++◌, map, length, take, filter, sym, refl, ap, ◌∙◌, subst, inl, inr, ⊎_elim, arith, length-take}
+use Rattle.std.proofs.Common.{◌≡◌, ℕ, zero, suc, ◌+◌, ◌-◌, ◌*◌, ◌≤◌, Bool, true, false, cond, ◌&&◌, ◌⊎◌, List, [], ◌∷◌, ◌++◌, map, length, take, filter, sym, refl, ap, subst, inl, inr, ⊎_elim, arith, length-take}
 use Rattle.std.specs.List.{range_with_len}
-use Rattle.std.proofs.lemmas.Bool.{leb-true, cases_Bool, and_parts, true≢false}
+use Rattle.std.proofs.lemmas.Bool.{leb-true, cases_Bool, and_parts}
 use Rattle.rules.specs.Counting.{one}
 use Rattle.rules.specs.Calendar.{Pool, in_set, in_pool, index}
-use Rattle.rules.specs.Choose.{Question, Place, across, joined_all, subframes, candidates, survives, survivors, ahead, earlier, ordered, fifth, enough, report}
-use Rattle.rules.specs.Configure.{within}
-use Rattle.rules.specs.Reports.{In, Once, InOrder, Reported, ReportLaw}
-use Rattle.rules.specs.Sensing.{Meaning}
+use Rattle.rules.specs.Choose.{Question, Place, across, joined_all, candidates, survives, survivors, ahead, earlier, ordered, fifth, report}
+use Rattle.rules.specs.Reports.{In, Once, InOrder, ReportLaw}
 use Rattle.rules.proofs.Limits.{Limits, limits}
 use Rattle.rules.proofs.Orders.{earlier_asym, earlier_ties, earlier_total, ahead_asym, ahead_ties, ahead_total}
 use Rattle.rules.proofs.Sets.{index_next}
-use Rattle.rules.proofs.Sorting.{Sorted, in_taken, once_taken, in_kept, once_kept, in_ordered, ordered_in, length_ordered, once_ordered, sorted_ordered, behind}
+use Rattle.rules.proofs.Sorting.{Sorted, in_taken, once_taken, once_kept, in_ordered, ordered_in, length_ordered, once_ordered, sorted_ordered, behind}
 
 abbrev place_at : ℕ → ℕ → Place
 place_at y x = record { channel = x; at = y }

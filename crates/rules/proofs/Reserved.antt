@@ -1,13 +1,10 @@
 -- How many ranks are reserved below a rank, and the set in closed form. Assumes nothing.
-use Rattle.std.proofs.Common.{◌≡◌, ℕ, zero, suc, ◌+◌, ◌-◌, ◌*◌, ◌/◌, ◌%◌, ◌<◌, ◌≤◌, Bool, true, false, not, ◌&&◌, ◌||◌, eqb, ltb, leb, ◌⊎◌, sym, refl, ap, ◌∙◌, inl, inr, ⊎_elim, mul-le-mul_right, mod-lt, mul_comm, add-mul, one-mul, div-add-mod', zero-mul, add-one, arith}
+use Rattle.std.proofs.Common.{◌≡◌, ℕ, ◌+◌, ◌-◌, ◌*◌, ◌/◌, ◌<◌, ◌≤◌, true, false, eqb, ap, ◌∙◌, ⊎_elim, mul-le-mul_right, mod-lt, mul_comm, add-mul, one-mul, div-add-mod', zero-mul, arith}
 use Rattle.std.proofs.lemmas.Nat.{div-mul-add}
-use Rattle.std.proofs.lemmas.Bool.{cases_Bool, cases_lt, cases_order, eqb-true, eq-eqb, both_ways}
-use Rattle.rules.specs.Counting.{one, count_below, some_below}
-use Rattle.rules.specs.Calendar.{Pool, size, remains, rank, remaining, left_over, reserved, kept, in_set, cycle, index, First, Next}
+use Rattle.std.proofs.lemmas.Bool.{cases_lt, cases_order, eqb-true, eq-eqb, both_ways}
+use Rattle.rules.specs.Counting.{some_below}
 use Rattle.rules.specs.Closed.{reserved_before}
-use Rattle.rules.proofs.Counts.{count_grows, count_round, some_at, none_at}
-use Rattle.rules.proofs.Limits.{Limits}
-use Rattle.rules.proofs.Ranks.{remaining_bounds}
+use Rattle.rules.proofs.Counts.{some_at, none_at}
 
 -- `left` ranks are spread over `all`
 module _ (all left : ℕ) (some : 0 < all) (few : left ≤ all) where

@@ -1,8 +1,8 @@
 -- The set and its indices in closed form. Assumes nothing.
-use Rattle.std.proofs.Common.{◌≡◌, ℕ, zero, suc, ◌+◌, ◌-◌, ◌*◌, ◌/◌, ◌%◌, ◌<◌, ◌≤◌, Bool, true, false, not, ◌&&◌, ◌||◌, eqb, ltb, leb, ◌⊎◌, sym, refl, ap, ◌∙◌, inl, inr, ⊎_elim, add-zero, mod-lt, div-add-mod', mul-one, mul-add, add-one, arith}
+use Rattle.std.proofs.Common.{◌≡◌, ℕ, zero, suc, ◌+◌, ◌-◌, ◌*◌, ◌/◌, ◌%◌, ◌<◌, ◌≤◌, Bool, true, false, not, ◌&&◌, ◌⊎◌, sym, refl, ap, ◌∙◌, inl, inr, ⊎_elim, add-zero, mod-lt, div-add-mod', mul-one, mul-add, add-one, arith}
 use native.Mathlib.Nat.{mod-le, mul-mod_left}
-use Rattle.std.proofs.lemmas.Bool.{cases_Bool, cases_lt, true≢false}
-use Rattle.rules.specs.Counting.{one, count_below, some_below}
+use Rattle.std.proofs.lemmas.Bool.{cases_Bool, cases_lt}
+use Rattle.rules.specs.Counting.{one, count_below}
 use Rattle.rules.specs.Calendar.{Pool, size, remains, rank, remaining, left_over, reserved, kept, in_set, cycle, index, First, Next}
 use Rattle.rules.specs.Closed.{reserved_before}
 use Rattle.rules.proofs.Counts.{count_grows, count_round, count_le}

@@ -1,11 +1,10 @@
 -- What holds of every memory holds on after each of its calls. Assumes nothing.
-use Rattle.std.proofs.Common.{◌≡◌, ℕ, ◌+◌, ◌<◌, ◌≤◌, Bool, true, false, List, Some, None, Option, sym, refl, ap, ◌∙◌, subst, ⊎_elim, arith}
+use Rattle.std.proofs.Common.{◌≡◌, ℕ, ◌<◌, ◌≤◌, true, List, Some, None, Option, sym, refl, ap, ◌∙◌, subst, ⊎_elim, arith}
 use mathlib.Core.Bool.{Bool-set}
 use mathlib.Core.Logic.{∥∥₁_elim}
 use native.Mathlib.Bridge.{le_prop}
 use Rattle.std.proofs.lemmas.Bool.{cases_lt, cases_eq}
-use Rattle.rules.specs.Format.{Within}
-use Rattle.rules.specs.Sensing.{Meaning, Held, Cell, blank, listened, sent, Inside, Sound, Fair, Frame, Moved, Added, Changed, readings_ok, held_count}
+use Rattle.rules.specs.Sensing.{Meaning, Held, Cell, blank, listened, sent, Inside, Sound, Fair, Moved, Added, Changed, readings_ok, held_count}
 
 -- a memory of which it is known only that it is sound: each of the facts has one proof at most
 fair_from : (n a : ℕ) (h : Held) → ∥ Fair n a h ∥₁ → Fair n a h

@@ -1,7 +1,7 @@
 -- The pool, and how subframes are counted in it. Assumes nothing.
 use Rattle.std.specs.Prelude.{◌≡◌, ℕ, ◌+◌, ◌-◌, ◌*◌, ◌/◌, ◌%◌, ◌^◌, ◌<◌, ◌≤◌, Bool, true, false, cond, not, ◌&&◌, List, [], ◌∷◌, length, get_or, ℤ, pos, ◌-ℤ◌, Some, None, Option, ◌==◌, nat_eq, nat_le, slice_index, slice_index_or}
 use Rattle.std.specs.List.{range_with_len}
-use Rattle.rules.specs.Counting.{one, count_below, some_below, among}
+use Rattle.rules.specs.Counting.{count_below, some_below, among}
 
 -- a resource pool
 pub record Pool : Type 0 where

@@ -1,7 +1,7 @@
 -- Choosing: candidates, exclusions, the fewest raises, means, the order and the report. Assumes nothing.
-use Rattle.std.specs.Prelude.{◌≡◌, ℕ, zero, suc, ◌+◌, ◌-◌, ◌*◌, ◌/◌, ◌%◌, ◌<◌, ◌≤◌, Bool, true, false, cond, not, ◌&&◌, ◌||◌, ◌⊎◌, List, [], ◌∷◌, ◌++◌, map, length, take, ℤ, pos, ◌+ℤ◌, Some, None, sum_by, filter, Option, ◌==◌, int_lt, nat_le, nat_lt, slice_index}
+use Rattle.std.specs.Prelude.{◌≡◌, ℕ, ◌+◌, ◌-◌, ◌*◌, ◌/◌, ◌%◌, ◌<◌, ◌≤◌, Bool, true, false, cond, not, ◌&&◌, ◌||◌, List, [], ◌∷◌, ◌++◌, map, length, take, ℤ, pos, ◌+ℤ◌, Some, None, sum_by, filter, Option, ◌==◌, int_lt, nat_le, nat_lt, slice_index}
 use Rattle.std.specs.List.{range_with_len}
-use Rattle.rules.specs.Counting.{any, first_no}
+use Rattle.rules.specs.Counting.{any}
 use Rattle.rules.specs.Calendar.{Pool, step, window, index, in_set, in_pool, distance, allowed, threshold}
 use Rattle.rules.specs.Format.{Record, Uses}
 use Rattle.rules.specs.Sensing.{Meaning, Cell, blank, listened, sent, listened?, Held}

@@ -1,7 +1,7 @@
 -- What choosing's tests say, in the subject's words, and how raises act. Assumes nothing.
-use Rattle.std.specs.Prelude.{◌≡◌, ℕ, ◌+◌, ◌-◌, ◌<◌, ◌≤◌, Bool, true, false, Some}
+use Rattle.std.specs.Prelude.{◌≡◌, ℕ, ◌+◌, ◌-◌, ◌<◌, ◌≤◌, true, Some}
 use Rattle.rules.specs.Calendar.{Pool, window}
-use Rattle.rules.specs.Choose.{Question, Place, Turn, turn, blinded, Blinded, reserved_at, Reserved, samples, Sample, survives, enough}
+use Rattle.rules.specs.Choose.{Question, Place, Turn, turn, blinded, Blinded, reserved_at, Reserved, samples, Sample, survives}
 use Rattle.rules.specs.Reports.{In}
 use Rattle.rules.specs.Sensing.{Meaning, Held, Fair}
 

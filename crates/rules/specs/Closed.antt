@@ -1,7 +1,7 @@
 -- The calendar in closed form: what the code computes, by a handful of divisions. Assumes nothing.
-use Rattle.std.specs.Prelude.{ℕ, ◌+◌, ◌-◌, ◌*◌, ◌/◌, ◌%◌, ◌^◌, Bool, not, List, length, sum_by, ◌==◌, slice_index}
+use Rattle.std.specs.Prelude.{ℕ, ◌+◌, ◌-◌, ◌*◌, ◌/◌, ◌%◌, ◌^◌, Bool, List, length, sum_by, ◌==◌, slice_index}
 use Rattle.rules.specs.Counting.{count_below, among}
-use Rattle.rules.specs.Calendar.{Pool, positions}
+use Rattle.rules.specs.Calendar.{positions}
 
 -- how many uplink positions of the code are below r
 abbrev pub positions_below : ℕ → ℕ → ℕ

@@ -1,5 +1,5 @@
 -- The questions that configure puts to a pool that is asked for. Assumes nothing.
-use Rattle.std.specs.Prelude.{ℕ, ◌+◌, ◌-◌, ◌*◌, ◌/◌, ◌%◌, ◌^◌, Bool, true, false, cond, not, ◌&&◌, leb, List, [], ◌∷◌, map, length, take, drop, replicate, ◌==◌, nat_eq, nat_le, nat_lt, slice_index}
+use Rattle.std.specs.Prelude.{ℕ, ◌-◌, ◌/◌, ◌%◌, ◌^◌, Bool, true, not, ◌&&◌, leb, List, [], ◌∷◌, map, length, take, drop, replicate, ◌==◌, nat_eq, nat_le, nat_lt, slice_index}
 use Rattle.std.specs.List.{range_with_len}
 use Rattle.rules.specs.Counting.{any, every, among, distinct, first_no}
 use Rattle.rules.specs.Calendar.{Pool, positions, size}

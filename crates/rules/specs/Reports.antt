@@ -1,5 +1,5 @@
 -- The law of a report, in the subject's words. Assumes nothing.
-use Rattle.std.specs.Prelude.{◌≡◌, ℕ, ◌-◌, ◌*◌, ◌<◌, ◌≤◌, true, false, ◌⊎◌, List, [], ◌∷◌, length}
+use Rattle.std.specs.Prelude.{◌≡◌, ℕ, ◌-◌, ◌*◌, ◌<◌, ◌≤◌, true, ◌⊎◌, List, [], ◌∷◌, length}
 use Rattle.rules.specs.Calendar.{Pool}
 use Rattle.rules.specs.Choose.{Question, Place, candidates, survivors, ahead, earlier, enough, report}
 use Rattle.rules.specs.Configure.{within}

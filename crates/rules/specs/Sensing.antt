@@ -1,5 +1,5 @@
 -- What a sensing memory holds, what it answers, and what each of its calls does. Assumes nothing.
-use Rattle.std.specs.Prelude.{◌≡◌, ℕ, zero, suc, ◌+◌, ◌-◌, ◌*◌, ◌<◌, ◌≤◌, Bool, true, false, cond, not, ◌&&◌, leb, List, [], ◌∷◌, ◌++◌, length, ℤ, pos, negsuc, is_some, Some, None, Ok, Err, Option, Result, ◌==◌, ◌≢◌, int_le, nat_le, nat_lt, slice_index}
+use Rattle.std.specs.Prelude.{◌≡◌, ℕ, zero, suc, ◌+◌, ◌-◌, ◌<◌, ◌≤◌, Bool, true, false, cond, not, ◌&&◌, leb, List, [], ◌∷◌, ◌++◌, length, ℤ, pos, negsuc, is_some, Some, None, Ok, Err, Option, Result, ◌==◌, ◌≢◌, int_le, nat_le, nat_lt, slice_index}
 use Rattle.rules.specs.Counting.{count_below, all_below, every, first_no}
 use Rattle.rules.specs.Format.{Record, Within, joined, record_of, questions as format_questions}
 

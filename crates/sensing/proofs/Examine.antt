@@ -1,16 +1,14 @@
 -- What the questions before a free place answer. Assumes nothing.
-use Rattle.std.proofs.Common.{◌≡◌, ℕ, zero, suc, ◌<◌, ◌≤◌, Bool, true, false, cond, not, ◌&&◌, eqb, ltb, leb, List, [], ◌∷◌, ◌++◌, length, get_or, ℤ, Some, None, Ok, Err, Option, Result, sym, refl, ap, ◌∙◌, subst, ⊎_elim, arith}
-use Rattle.std.proofs.lemmas.Bool.{cond-true, cond-false, cases_Bool, eqb-true, eq-eqb, ne_eqb, lt-ltb, ltb-true, and_from, and_parts, and_left, and_right}
+use Rattle.std.proofs.Common.{◌≡◌, ℕ, zero, suc, ◌<◌, Bool, true, false, cond, not, eqb, ltb, List, [], ◌∷◌, ◌++◌, length, get_or, ℤ, Some, None, Ok, Err, Option, Result, sym, refl, ap, ◌∙◌, subst, arith}
+use Rattle.std.proofs.lemmas.Bool.{eqb-true, eq-eqb, ne_eqb, lt-ltb, ltb-true, and_from, and_parts, and_left, and_right}
 use Rattle.answer.specs.declared.Refusal.{Refusal}
 use Rattle.answer.specs.Numbers.{number}
 use Rattle.answer.proofs.Some.{number_some}
-use Rattle.rules.specs.Counting.{first_no, every}
-use Rattle.rules.specs.Format.{Record as Fields, Reads, Within, joined, record_of, reading, questions}
+use Rattle.rules.specs.Counting.{first_no}
+use Rattle.rules.specs.Format.{Record as Fields, joined, record_of, reading, questions}
 use Rattle.rules.specs.Sensing.{Meaning, Inside, inside, asked_record, rsrp_ok, Fair, heard_as, heard_questions, record_questions, sent?, free_for, same_held, same_list, resource_questions, asked_mark, asked_reading, reading_in, Cell, blank, listened, sent, mark, is_listened, listened?, quiet_for, readings_ok, readings_questions, Sound}
 use Rattle.rules.proofs.Answers.{stops, passes, answer_ok, inside_from, from_inside}
-use Rattle.format1.specs.declared.Record.{Record}
-use Rattle.format1.specs.Records.{meant_of}
-use Rattle.sensing.specs.Memories.{held_of, option_held_of, Heard, Compared, Examined, Passed, SameReadings}
+use Rattle.sensing.specs.Memories.{held_of, option_held_of, Compared, Examined, Passed, SameReadings}
 use Rattle.sensing.specs.declared.Held.{Held}
 use Rattle.sensing.proofs.Said.{unstated}
 use Rattle.sensing.proofs.Same.{held_self}

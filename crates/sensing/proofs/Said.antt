@@ -1,8 +1,8 @@
 -- What a memory's answers say of its meaning. Assumes nothing.
-use Rattle.std.proofs.Common.{◌≡◌, ℕ, ◌+◌, ◌-◌, ◌<◌, ◌≤◌, Bool, true, false, cond, not, ◌&&◌, eqb, ltb, leb, List, [], ◌∷◌, is_some, Some, None, Ok, Err, Option, Result, sym, refl, ap, ◌∙◌, arith}
-use Rattle.std.proofs.lemmas.Bool.{and_parts, and_from, ltb-true, lt-ltb, not-true, true≢false}
-use Rattle.rules.specs.Sensing.{Meaning, Cell, blank, listened, sent, mark, Mark, is_blank, is_listened, is_sent, Held as Meant, Inside, inside, answer, asked_mark, asked_reading, asked_record, index_questions, resource_questions, reading_in, bare, Nothing, sent?}
-use Rattle.rules.proofs.Answers.{answer_ok, answer_err, inside_from, from_inside, all_from}
+use Rattle.std.proofs.Common.{◌≡◌, ℕ, ◌+◌, ◌-◌, ◌<◌, true, false, cond, not, ltb, is_some, Some, None, Ok, Err, Option, sym, refl, ap, ◌∙◌, arith}
+use Rattle.std.proofs.lemmas.Bool.{and_parts, and_from, lt-ltb, not-true, true≢false}
+use Rattle.rules.specs.Sensing.{Meaning, Cell, blank, listened, sent, mark, Mark, is_blank, is_listened, is_sent, Held as Meant, Inside, inside, asked_mark, asked_record, index_questions, resource_questions, bare, Nothing, sent?}
+use Rattle.rules.proofs.Answers.{answer_ok, from_inside, all_from}
 use Rattle.rules.proofs.Limits.{all_at}
 use Rattle.sensing.specs.Memories.{option_held_of, mark_of}
 use Rattle.sensing.specs.declared.Held.{Held}

@@ -1,10 +1,10 @@
 -- What the types of a sensing memory's calls mean. Assumes nothing.
-use Rattle.std.specs.Prelude.{◌≡◌, ℕ, ◌<◌, Bool, true, false, cond, not, List, length, ℤ, Some, None, Ok, Err, Option, Result}
+use Rattle.std.specs.Prelude.{◌≡◌, ℕ, ◌<◌, Bool, true, false, not, List, length, ℤ, Some, None, Ok, Err, Option, Result}
 use Rattle.answer.specs.declared.Refusal.{Refusal}
 use Rattle.answer.specs.Numbers.{number}
 use Rattle.format1.specs.Records.{meant_of}
 use Rattle.rules.specs.Counting.{first_no}
-use Rattle.rules.specs.Sensing.{Meaning, Mark, is_blank, is_listened, is_sent, Held as Meant, Fair, Inside, sent?, listened?, record_questions, readings_questions, heard_as, heard_questions, free_for, inside, mark, blank, listened, same_list, sent_questions, bare}
+use Rattle.rules.specs.Sensing.{Meaning, Mark, is_blank, is_listened, is_sent, Held as Meant, Fair, Inside, listened?, record_questions, readings_questions, heard_as, heard_questions, free_for, blank, listened, same_list, sent_questions, bare}
 use Rattle.sensing.specs.declared.Held.{Held}
 use Rattle.sensing.specs.declared.Kept.{Kept}
 use Rattle.sensing.specs.declared.Kept.TheVariants.{New, Already}

@@ -1,9 +1,9 @@
 -- The worked calendar holds. Assumes nothing.
-use Rattle.std.proofs.Common.{◌≡◌, ℕ, ◌+◌, ◌-◌, ◌*◌, ◌/◌, ◌%◌, Bool, true, false, not, ◌&&◌, eqb, List, [], ◌∷◌, sym, refl, ap, ◌∙◌, arith}
+use Rattle.std.proofs.Common.{◌≡◌, ℕ, ◌*◌, ◌/◌, ◌%◌, true, false, not, eqb, refl, ap, ◌∙◌, arith}
 use Rattle.rules.specs.Counting.{one, count_below, some_below}
-use Rattle.rules.specs.Calendar.{Pool, remains, rank, remaining, left_over, reserved, kept, cycle, in_set, index}
+use Rattle.rules.specs.Calendar.{remains, rank, remaining, left_over, reserved, kept, cycle, in_set, index}
 use Rattle.worked.specs.Calendars.{offset_pool, Counted}
-use Rattle.rules.proofs.Limits.{Limits, limits}
+use Rattle.rules.proofs.Limits.{limits}
 use Rattle.rules.proofs.Ranks.{remaining_closed}
 
 all : remaining offset_pool ≡ 10176

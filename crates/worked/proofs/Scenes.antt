@@ -1,10 +1,10 @@
 -- The worked selections hold: antt computes them, each by itself. Assumes nothing.
-use Rattle.std.proofs.Common.{◌≡◌, ℕ, ◌+◌, ◌*◌, ◌<◌, Bool, true, false, cond, leb, List, length, get_or, take, ℤ, pos, negsuc, Some, None, filter, sym, refl, ap, ◌∙◌, subst, arith}
-use Rattle.rules.specs.Calendar.{Pool, step, window, distance, allowed}
+use Rattle.std.proofs.Common.{◌≡◌, ℕ, ◌*◌, Bool, true, false, cond, leb, length, get_or, take, ℤ, negsuc, Some, None, filter, sym, refl, ap, ◌∙◌, subst, arith}
+use Rattle.rules.specs.Calendar.{step, window, distance, allowed}
 use Rattle.rules.specs.ChooseLaws.{FairHeld}
 use Rattle.rules.specs.Format.{Within}
-use Rattle.rules.specs.Sensing.{Meaning, Held, Fair, rsrp_ok}
-use Rattle.rules.specs.Choose.{Place, candidates, blinded, reserved_at, survives, survivors, enough, mean, ahead, earlier, ordered, fifth, report}
+use Rattle.rules.specs.Sensing.{Meaning, Fair, rsrp_ok}
+use Rattle.rules.specs.Choose.{candidates, blinded, reserved_at, survives, survivors, enough, mean, ahead, earlier, ordered, fifth, report}
 use Rattle.rules.proofs.Enough.{never, fewest, at_once}
 use Rattle.rules.proofs.Raises.{fair_window}
 use Rattle.worked.specs.Scenes.{yard, ask, quiet, deaf, crowd, plain, origin, Scenes}

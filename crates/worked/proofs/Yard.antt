@@ -1,10 +1,9 @@
 -- The candidates of the worked yard: every subframe is in the set and is its own index. Assumes nothing.
-use Rattle.std.proofs.Common.{◌≡◌, ℕ, zero, suc, ◌+◌, ◌-◌, ◌*◌, ◌/◌, ◌%◌, ◌<◌, Bool, true, false, cond, not, ◌&&◌, eqb, List, [], ◌∷◌, map, length, get_or, replicate, filter, sym, refl, ap, ◌∙◌, arith}
+use Rattle.std.proofs.Common.{◌≡◌, ℕ, zero, suc, ◌-◌, ◌*◌, ◌/◌, ◌%◌, Bool, true, false, cond, not, ◌&&◌, eqb, List, [], ◌∷◌, map, get_or, replicate, filter, refl, ap, ◌∙◌, arith}
 use Rattle.std.specs.List.{range_with_len}
-use Rattle.rules.specs.Counting.{one, count_below, some_below, all_below, among}
-use Rattle.rules.specs.Calendar.{Pool, remains, rank, remaining, left_over, reserved, kept, in_set, cycle, index, in_pool, positions}
-use Rattle.rules.specs.Configure.{within}
-use Rattle.rules.specs.Choose.{Place, across, joined_all, subframes, candidates}
+use Rattle.rules.specs.Counting.{one, count_below, some_below, among}
+use Rattle.rules.specs.Calendar.{remains, rank, remaining, left_over, reserved, kept, in_set, cycle, index, in_pool, positions}
+use Rattle.rules.specs.Choose.{Place, across, joined_all, candidates}
 use Rattle.rules.proofs.Limits.{all_at}
 use Rattle.worked.specs.Scenes.{yard, ask}
 

@@ -1,5 +1,5 @@
 -- A worked calendar, checked by hand. Assumes nothing.
-use Rattle.std.specs.Prelude.{◌≡◌, ℕ, Bool, true, false, List, [], ◌∷◌, replicate}
+use Rattle.std.specs.Prelude.{◌≡◌, true, false, [], ◌∷◌, replicate}
 use Rattle.rules.specs.Calendar.{Pool, remains, rank, remaining, left_over, reserved, cycle, in_set, index}
 
 -- no TDD, one sync offset at 0, a bitmap of twenty ones

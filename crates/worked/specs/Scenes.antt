@@ -1,5 +1,5 @@
 -- Worked selections, checked by hand. Assumes nothing.
-use Rattle.std.specs.Prelude.{◌≡◌, ℕ, ◌<◌, Bool, true, false, cond, List, [], ◌∷◌, length, replicate, ℤ, pos, negsuc, Some, None, Option, nat_le, nat_lt, slice_index_or}
+use Rattle.std.specs.Prelude.{◌≡◌, ℕ, true, false, cond, [], ◌∷◌, length, replicate, ℤ, negsuc, Some, None, Option, nat_le, nat_lt, slice_index_or}
 use Rattle.rules.specs.Calendar.{Pool}
 use Rattle.rules.specs.Format.{Record}
 use Rattle.rules.specs.Sensing.{Meaning, Cell, blank, listened, Held}

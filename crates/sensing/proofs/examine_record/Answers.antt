@@ -1,12 +1,12 @@
-use Rattle.std.proofs.Common.{◌≡◌, ℕ, true, false, List, ℤ, Ok, Err, Result, sym, refl, ap, ◌∙◌, subst, arith, w16, SFits, to_z, of_z, rules}
+use Rattle.std.proofs.Common.{◌≡◌, ℕ, List, ℤ, Ok, Err, Result, sym, ◌∙◌, subst, w16, SFits, to_z, of_z, rules}
 use Rattle.std.proofs.lemmas.Result.{err_from_is_err_and}
 use Rattle.std.proofs.lemmas.Int.{to_z-of_z}
 use Rattle.answer.specs.declared.Refusal.{Refusal}
 use Rattle.sensing.specs.declared.Held.{Held}
-use Rattle.rules.specs.Sensing.{Meaning, sent?}
+use Rattle.rules.specs.Sensing.{Meaning}
 use Rattle.std.proofs.lemmas.Bool.{true≢false}
 use Rattle.answer.specs.Numbers.{number}
-use Rattle.sensing.specs.declared.State.TheVariants.{Blank, Listened, Sent}
+use Rattle.sensing.specs.declared.State.TheVariants.{Sent}
 use Rattle.sensing.specs.Memories.{Heard}
 use Rattle.sensing.proofs.Said.{told, stated, unstated, sent_is, sent_not}
 use Rattle.sensing.proofs.Examine.{no_place, no_record, no_sent, finish}

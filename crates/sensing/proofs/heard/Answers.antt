@@ -1,10 +1,9 @@
-use Rattle.std.proofs.Common.{◌≡◌, true, false, sym, ap, ◌∙◌, arith, w16, to_z, of_z}
+use Rattle.std.proofs.Common.{◌≡◌, true, ap, ◌∙◌, arith, w16}
 use Rattle.std.proofs.lemmas.Result.{err_from_is_err_and}
 use Rattle.std.proofs.lemmas.Int.{ints, to_z-of_z}
-use Rattle.rules.specs.Format.{Record as Fields, record_of, joined}
-use Rattle.rules.specs.Sensing.{Held as Meant, rsrp_ok, heard_as}
+use Rattle.rules.specs.Sensing.{rsrp_ok}
 use Rattle.format1.specs.Records.{meant_of}
-use Rattle.sensing.proofs.Examine.{reading_ok, heard_no, heard_far, heard_yes}
+use Rattle.sensing.proofs.Examine.{reading_ok, heard_no, heard_yes}
 use Rattle.sensing.proofs.heard.Goals as goal
 
 pub returns-in_err-what : goal.returns-in_err-what

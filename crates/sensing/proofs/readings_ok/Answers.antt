@@ -1,4 +1,4 @@
-use Rattle.std.proofs.Common.{◌≡◌, eqb, leb, sym, arith, below_more}
+use Rattle.std.proofs.Common.{leb, sym, arith, below_more}
 use Rattle.std.proofs.lemmas.Bool.{le-leb, lt-leb, eq-eqb, and_from, and_right}
 use Rattle.rules.proofs.Lists.{every_from, every_fails}
 use Rattle.sensing.proofs.readings_ok.Goals as goal

@@ -1,4 +1,4 @@
-use Rattle.std.proofs.Common.{◌≡◌, Ok, sym, ap, ◌∙◌, arith, below_more}
+use Rattle.std.proofs.Common.{Ok, sym, ap, ◌∙◌, arith, below_more}
 use Rattle.sensing.proofs.Examine.{same_lists, other_lists, reading_of}
 use Rattle.sensing.proofs.same_readings.Goals as goal
 

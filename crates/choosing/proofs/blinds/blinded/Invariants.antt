@@ -1,4 +1,4 @@
-use Rattle.std.proofs.Common.{false, List, replicate}
+use Rattle.std.proofs.Common.{false, replicate}
 use Rattle.std.specs.List.{range_with_len}
 use Rattle.pool.specs.Pools.{meaning}
 use Rattle.rules.specs.Counting.{any}

@@ -1,4 +1,3 @@
-use Rattle.std.proofs.Common.{◌≡◌}
 use Rattle.pool.specs.Pools.{meaning}
 use Rattle.choosing.specs.Blinds.{Marked, by_code}
 use Rattle.choosing.proofs.blinds.mark_codes.Given as goal

@@ -1,11 +1,7 @@
-use Rattle.std.proofs.Common.{◌≡◌, ◌-◌, true, false, not, ◌&&◌, sym, ap, ◌∙◌, arith, rules}
-use Rattle.std.proofs.lemmas.Bool.{true≢false}
-use Rattle.rules.specs.Sensing.{listened?}
-use Rattle.rules.proofs.Answers.{from_inside}
-use Rattle.answer.specs.Numbers.{number}
+use Rattle.std.proofs.Common.{◌≡◌, ◌-◌, not, ◌&&◌, sym, ap, ◌∙◌, rules}
 use Rattle.pool.specs.Pools.{meaning}
 use Rattle.sensing.specs.declared.State.TheVariants.{Listened}
-use Rattle.sensing.proofs.Said.{stated, unstated}
+use Rattle.sensing.proofs.Said.{stated}
 use Rattle.choosing.specs.Blinds.{by_code, by_index}
 use Rattle.choosing.proofs.Marking.{marked_same, marked_none, not_listened, is_listened_cell}
 use Rattle.choosing.proofs.blinds.mark_index.Goals as goal

@@ -1,4 +1,4 @@
-use Rattle.std.proofs.Common.{◌≡◌, ◌+◌, ◌*◌, arith}
+use Rattle.std.proofs.Common.{◌+◌, ◌*◌, arith}
 use Rattle.rules.specs.Choose.{turn}
 use Rattle.choosing.specs.Blinds.{by_turn}
 use Rattle.choosing.proofs.Marking.{any_more, marked_both}

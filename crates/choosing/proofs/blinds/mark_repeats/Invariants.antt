@@ -1,4 +1,3 @@
-use Rattle.std.proofs.Common.{◌≡◌}
 use Rattle.choosing.specs.Blinds.{Marked, by_turn}
 use Rattle.choosing.proofs.blinds.mark_repeats.Given as goal
 

@@ -1,4 +1,4 @@
-use Rattle.std.proofs.Common.{◌≡◌, List, None, Option, sym, ◌∙◌}
+use Rattle.std.proofs.Common.{List, None, Option, sym, ◌∙◌}
 use Rattle.std.proofs.lemmas.List.{at_drop_more, at_drop_all}
 use Rattle.sensing.specs.declared.Held.{Held}
 use Rattle.memory.specs.declared.entries.Entry.{Entry}

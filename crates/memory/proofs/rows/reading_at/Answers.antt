@@ -1,5 +1,4 @@
-use Rattle.std.proofs.Common.{◌+◌, ◌*◌, ◌%◌, ◌<◌, ◌≤◌, length, Some, sym, refl, ap, ◌∙◌, arith}
-use Rattle.std.proofs.lemmas.List.{get_or-take, get_or-drop}
+use Rattle.std.proofs.Common.{arith}
 use Rattle.memory.proofs.RowCells.{block_below, reading_there}
 use Rattle.memory.proofs.rows.reading_at.Goals as goal
 

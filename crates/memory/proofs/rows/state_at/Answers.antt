@@ -1,8 +1,7 @@
-use Rattle.std.proofs.Common.{sym, refl, ap, ◌∙◌}
-use Rattle.rules.specs.Sensing.{mark, blank}
-use Rattle.sensing.specs.Memories.{mark_of}
+use Rattle.std.proofs.Common.{sym, ap, ◌∙◌}
+use Rattle.rules.specs.Sensing.{mark}
 use Rattle.std.proofs.lemmas.Bool.{cond-true, cond-false}
-use Rattle.memory.specs.RowCells.{cell_at, row_at, readings_of, cell_of}
+use Rattle.memory.specs.RowCells.{cell_at, row_at}
 use Rattle.memory.proofs.RowCells.{mark_of_cell}
 use Rattle.memory.proofs.rows.state_at.Goals as goal
 

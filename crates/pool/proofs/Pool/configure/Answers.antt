@@ -1,4 +1,4 @@
-use Rattle.std.proofs.Common.{sym, refl, rules}
+use Rattle.std.proofs.Common.{sym, refl}
 use Rattle.pool.proofs.Made.{made}
 use Rattle.pool.proofs.Pool.configure.Goals as goal
 

@@ -1,4 +1,4 @@
-use Rattle.std.proofs.Common.{◌≡◌, ◌%◌, false, get_or, sym, ap, ◌∙◌}
+use Rattle.std.proofs.Common.{◌%◌, false, get_or, sym, ap, ◌∙◌}
 use Rattle.rules.specs.Calendar.{in_pool}
 use Rattle.pool.specs.Pools.{meaning}
 use Rattle.pool.proofs.Kept.{size_is}

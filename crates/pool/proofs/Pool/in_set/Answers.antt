@@ -1,4 +1,4 @@
-use Rattle.std.proofs.Common.{◌≡◌, ◌+◌, ◌%◌, ◌<◌, eqb, sym, ap, ◌∙◌, mod-lt, arith}
+use Rattle.std.proofs.Common.{◌+◌, ◌%◌, ◌<◌, eqb, sym, ap, ◌∙◌, arith}
 use Rattle.rules.specs.Calendar.{in_set, rank, remaining, left_over}
 use Rattle.rules.specs.Closed.{reserved_before}
 use Rattle.rules.proofs.Calls.{set_without, set_here}

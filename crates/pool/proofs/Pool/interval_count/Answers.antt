@@ -1,4 +1,3 @@
-use Rattle.std.proofs.Common.{◌≡◌, ℕ, ◌^◌, ◌<◌, ◌∙◌, arith}
 use Rattle.rules.proofs.Intervals.{allowed_counted}
 use Rattle.pool.specs.Pools.{meaning}
 use Rattle.pool.proofs.Kept.{keeps}

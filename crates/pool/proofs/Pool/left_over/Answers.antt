@@ -1,4 +1,4 @@
-use Rattle.std.proofs.Common.{◌≡◌, ◌%◌, ◌<◌, sym, ap, ◌∙◌, mod-lt, arith}
+use Rattle.std.proofs.Common.{◌≡◌, ◌%◌, sym, ap, ◌∙◌, mod-lt, arith}
 use Rattle.rules.specs.Calendar.{left_over, remaining}
 use Rattle.pool.specs.Pools.{meaning}
 use Rattle.pool.proofs.Kept.{keeps, size_is}

@@ -1,4 +1,4 @@
-use Rattle.std.proofs.Common.{◌≡◌, ◌+◌, ◌*◌, ◌/◌, ◌%◌, ◌≤◌, sym, ap, ◌∙◌, subst, mul-le-mul_right, arith}
+use Rattle.std.proofs.Common.{◌≡◌, ◌+◌, ◌*◌, ◌/◌, ◌≤◌, sym, ap, ◌∙◌, subst, mul-le-mul_right, arith}
 use Rattle.rules.specs.Calendar.{cycle, index, Next}
 use Rattle.rules.proofs.Sets.{next_is}
 use Rattle.pool.specs.Pools.{meaning}

@@ -1,4 +1,4 @@
-use Rattle.std.proofs.Common.{◌≤◌, ap, ◌∙◌, arith}
+use Rattle.std.proofs.Common.{ap, ◌∙◌, arith}
 use lib.Count.{ones}
 use Rattle.rules.proofs.Limits.{limits}
 use Rattle.rules.proofs.Masks.{mask_ones}

@@ -1,4 +1,4 @@
-use Rattle.std.proofs.Common.{◌≡◌, length, take, arith, length-take, rules}
+use Rattle.std.proofs.Common.{◌≡◌, length, arith, length-take, rules}
 use Rattle.rules.proofs.Ranks.{remaining_closed, remaining_bounds}
 use Rattle.pool.specs.Pools.{meaning}
 use Rattle.pool.proofs.Kept.{keeps}

@@ -1,4 +1,4 @@
-use Rattle.std.proofs.Common.{◌≡◌, ◌-◌, ap, ◌∙◌, arith}
+use Rattle.std.proofs.Common.{ap, ◌∙◌, arith}
 use Rattle.rules.specs.Calendar.{remaining, left_over}
 use Rattle.rules.specs.Closed.{reserved_before}
 use Rattle.rules.proofs.Calls.{set_before, spent_le, rank_le}

@@ -1,4 +1,4 @@
-use Rattle.std.proofs.Common.{◌≡◌, ℕ, ◌≤◌, leb, length, sym, refl, ◌∙◌, arith, rules}
+use Rattle.std.proofs.Common.{leb, sym, refl, ◌∙◌, arith, rules}
 use Rattle.std.proofs.lemmas.Bool.{leb-true}
 use Rattle.rules.specs.Configure.{sizes}
 use Rattle.rules.proofs.Limits.{every_among}

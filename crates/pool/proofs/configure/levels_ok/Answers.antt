@@ -1,4 +1,4 @@
-use Rattle.std.proofs.Common.{leb, sym, arith, rules, below_more}
+use Rattle.std.proofs.Common.{leb, sym, arith, below_more}
 use Rattle.std.proofs.lemmas.Bool.{le-leb, lt-leb}
 use Rattle.rules.proofs.Lists.{every_from, every_fails}
 use Rattle.pool.proofs.configure.levels_ok.Goals as goal

@@ -1,4 +1,4 @@
-use Rattle.std.proofs.Common.{◌≡◌, ltb, sym, ap, ◌∙◌, arith, below_more}
+use Rattle.std.proofs.Common.{ltb, sym, arith, below_more}
 use lib.Count.{ones}
 use Rattle.std.proofs.lemmas.Bool.{lt-ltb, le-ltb}
 use Rattle.rules.proofs.Lists.{any_from, any_none}

@@ -1,7 +1,7 @@
-use Rattle.std.proofs.Common.{◌≡◌, ◌<◌, true, not, is_some, sym, ap, ◌∙◌, arith}
-use Rattle.std.proofs.lemmas.Bool.{and_from, and_right}
+use Rattle.std.proofs.Common.{◌≡◌, true, not, is_some, sym, ap, ◌∙◌, arith}
+use Rattle.std.proofs.lemmas.Bool.{and_right}
 use Rattle.rules.specs.Sensing.{inside}
-use Rattle.rules.proofs.Answers.{all_from, all_fails, inside_from}
+use Rattle.rules.proofs.Answers.{all_fails, inside_from}
 use Rattle.sensing.proofs.Said.{told, same_some, bare_from}
 use Rattle.sensing.proofs.Asking.bare_at.Goals as goal
 

@@ -1,4 +1,4 @@
-use Rattle.std.proofs.Common.{◌≡◌, ℕ, ◌<◌, Bool, true, None}
+use Rattle.std.proofs.Common.{◌≡◌, ℕ, ◌<◌, true, None}
 use Rattle.rules.specs.Sensing.{inside}
 use Rattle.sensing.proofs.Asking.bare_at.Given as goal
 

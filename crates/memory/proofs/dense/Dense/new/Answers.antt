@@ -1,4 +1,4 @@
-use Rattle.std.proofs.Common.{◌≡◌, refl, arith}
+use Rattle.std.proofs.Common.{refl, arith}
 use Rattle.memory.proofs.RowCells.{cleared_upto}
 use Rattle.memory.proofs.DenseCalls.{holds_nothing, new_sound}
 use Rattle.memory.proofs.dense.Dense.new.Goals as goal

@@ -1,4 +1,4 @@
-use Rattle.std.proofs.Common.{◌≡◌, ◌<◌, length, sym, subst, arith}
+use Rattle.std.proofs.Common.{◌≡◌, ◌<◌, length, subst, arith}
 use Rattle.rules.specs.Sensing.{New}
 use Rattle.memory.specs.SparseParts.{meant}
 use Rattle.memory.proofs.SparseSteps.{is_new, new_whole}

@@ -1,4 +1,4 @@
-use Rattle.std.proofs.Common.{◌≡◌, ℕ, ◌<◌, List, ℤ, Some, None, Ok, Err, Option, Result, sym, refl, ap, ◌∙◌, subst, arith, w16, SFits, to_z, of_z}
+use Rattle.std.proofs.Common.{◌≡◌, ℕ, List, ℤ, Some, None, Ok, Err, Option, Result, sym, refl, ap, ◌∙◌, subst, arith, w16, SFits, to_z, of_z}
 use Rattle.std.proofs.lemmas.Result.{err_from_is_err_and}
 use Rattle.std.proofs.lemmas.Int.{to_z-of_z}
 use Rattle.answer.specs.declared.Refusal.{Refusal}
@@ -7,7 +7,7 @@ use Rattle.answer.proofs.Some.{number_some}
 use Rattle.rules.specs.Sensing.{Meaning, heard_as, Added}
 use Rattle.rules.proofs.Accepted.{record_refused, record_already, record_new, record_unsent}
 use Rattle.rules.proofs.HeldCount.{held_count_less}
-use Rattle.sensing.specs.Memories.{kept, held_of, Examined}
+use Rattle.sensing.specs.Memories.{kept, Examined}
 use Rattle.sensing.specs.declared.Held.{Held}
 use Rattle.memory.specs.DensePlaces.{meant}
 use Rattle.memory.specs.DenseMemory.{dense, dense_sound}

@@ -1,4 +1,4 @@
-use Rattle.std.proofs.Common.{◌≡◌, sym, refl}
+use Rattle.std.proofs.Common.{sym, refl}
 use Rattle.sensing.proofs.Said.{from_bare}
 use Rattle.memory.specs.DenseMemory.{dense, dense_sound}
 use Rattle.memory.proofs.DenseCalls.{marked_sound}

@@ -1,7 +1,7 @@
-use Rattle.std.proofs.Common.{◌≡◌, ◌+◌, ◌%◌, length, sym, subst, arith}
+use Rattle.std.proofs.Common.{subst, arith}
 use Rattle.rules.specs.Sensing.{listened}
 use Rattle.sensing.specs.declared.State.TheVariants.{Listened}
-use Rattle.memory.specs.RowCells.{Written, Copied}
+use Rattle.memory.specs.RowCells.{Copied}
 use Rattle.memory.proofs.RowCells.{listens}
 use Rattle.memory.proofs.DenseSteps.{cell_upheld, cell_changed}
 use Rattle.memory.proofs.dense.store.Store.file.Goals as goal

@@ -1,4 +1,4 @@
-use Rattle.std.proofs.Common.{◌+◌, ◌%◌, ◌≤◌, length, arith}
+use Rattle.std.proofs.Common.{◌+◌, ◌%◌, ◌≤◌, arith}
 use Rattle.std.proofs.lemmas.Nat.{mul-le, mod_below}
 use Rattle.std.proofs.lemmas.List.{length-set}
 use Rattle.memory.proofs.RowCells.{block_below}

@@ -1,9 +1,8 @@
-use Rattle.std.proofs.Common.{◌≡◌, ℕ, ◌<◌, length, Some, None, Ok, Err, Option, sym, refl, ap, ◌∙◌, subst, arith}
+use Rattle.std.proofs.Common.{◌<◌, length, Some, None, Ok, Err, Option, sym, refl, ap, ◌∙◌, subst, arith}
 use Rattle.std.proofs.lemmas.Result.{err_from_is_err_and}
 use Rattle.answer.specs.Numbers.{number}
 use Rattle.answer.proofs.Some.{number_some}
 use Rattle.rules.specs.Sensing.{Added, Fair, heard_as, held_count}
-use Rattle.sensing.specs.Memories.{held_of}
 use Rattle.sensing.specs.declared.Held.{Held}
 use Rattle.memory.specs.SparseMemory.{sparse}
 use Rattle.memory.specs.SparseParts.{meant}
