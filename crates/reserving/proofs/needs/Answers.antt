@@ -65,10 +65,10 @@ returns g c fit low i x r l k few =
     let test : ℕ → Place → Bool = by_window p m q (m.next - m.window) m.window in
     let most : length (slots_of found) ≤ 100 = subst (λ s. length s ≤ 100) c.slots.ensures.value c.slots.ensures.few in
     let count : i < found.count = omega (arith, length-take found.count found.slots) in
-    let lifted : Lifted (slots_of found) test zeros c.lift-window.new.rows = subst (λ s. Lifted s test zeros c.lift-window.new.rows) c.slots.ensures.value c.lift-window.ensures in
-    settled r (at zeros i x) (at c.lift-window.new.rows i x) (at c.lift-blinded.new.rows i x) (test r place) (reserved_at p m q r place) (get_or c.blinded-flags.result i false) (blinded p m q place.at)
+    let lifted : Lifted (slots_of found) test zeros c.lift_window.new.rows = subst (λ s. Lifted s test zeros c.lift_window.new.rows) c.slots.ensures.value c.lift_window.ensures in
+    settled r (at zeros i x) (at c.lift_window.new.rows i x) (at c.lift_blinded.new.rows i x) (test r place) (reserved_at p m q r place) (get_or c.blinded-flags.result i false) (blinded p m q place.at)
     (empty i x r (omega arith) k)
     (lifted i x r l k few)
-    (c.lift-blinded.ensures i x r (omega arith) k few)
+    (c.lift_blinded.ensures i x r (omega arith) k few)
     (all_reserved p m q r place fit)
     (flag_of p m q found i (get_or c.blinded-flags.result i false) count (c.blinded-flags.ensures fit.early fit.window i count))

@@ -35,6 +35,6 @@ returns c raise few =
     let own : SFits w16 x = c.ranges.rsrp in
     let fits : SFits w16 t = search rules in
     let wide : SFits w16 (x -ℤ t) = grind (arith, ints) in
-    let e = simp to_z-of_z at (c.raises-over.ensures.value raise) in
+    let e = simp to_z-of_z at (c.raises_over.ensures.value raise) in
     let l = simp to_z-of_z at c.if-rsrp-threshold.false in
-    louder v raise t x c.raises-over.result w.0 w.1 w.2 l e
+    louder v raise t x c.raises_over.result w.0 w.1 w.2 l e

@@ -20,15 +20,15 @@ own_turn q apart p what a b n e =
     ap (λ o. n && ((turn p.at apart q.turns b && share p.channel q.length a what.length) || taken_by_partner q apart p what o)) (sym e)
     ∙ ap (λ t. n && t) (or_none (turn p.at apart q.turns b && share p.channel q.length a what.length))
 
-pub returns-in-default : goal.returns-in-default
-returns-in-default c =
+pub returns-in_default : goal.returns-in_default
+returns-in_default c =
     let a = c.args in
     let q = question_of a.asked.now.question in
     let apart = a.asked.now.apart in
     let what = meant_of a.what.now in
-    lifted_same a.asked.now.slots.now (by_turn q apart a.b a.resource what.length a.need) (by_base q apart what a.resource a.b a.need) a.rows.now c.lift-turn.new.rows
-    (λ r p few. own_turn q apart p what a.resource a.b (ltb r a.need) c.in-default.ensures)
-    c.lift-turn.ensures
+    lifted_same a.asked.now.slots.now (by_turn q apart a.b a.resource what.length a.need) (by_base q apart what a.resource a.b a.need) a.rows.now c.lift_turn.new.rows
+    (λ r p few. own_turn q apart p what a.resource a.b (ltb r a.need) c.in_default.ensures)
+    c.lift_turn.ensures
 
 pub returns : goal.returns
 returns c =
@@ -37,7 +37,7 @@ returns c =
     let apart = a.asked.now.apart in
     let what = meant_of a.what.now in
     let t = c.in-Some.t in
-    lifted_both a.asked.now.slots.now (by_turn q apart a.b a.resource what.length a.need) (by_turn q apart t what.start what.length a.need) (by_base q apart what a.resource a.b a.need) a.rows.now c.lift-turn.new.rows c.lift-turn-2.new.rows
+    lifted_both a.asked.now.slots.now (by_turn q apart a.b a.resource what.length a.need) (by_turn q apart t what.start what.length a.need) (by_base q apart what a.resource a.b a.need) a.rows.now c.lift_turn.new.rows c.lift_turn-2.new.rows
     (λ r p few. both_turns q apart p what a.resource a.b t (ltb r a.need) c.in-Some.ensures)
-    c.lift-turn.ensures
-    c.lift-turn-2.ensures
+    c.lift_turn.ensures
+    c.lift_turn-2.ensures

@@ -22,13 +22,13 @@ loop-k-preserved c =
     let apart = a.asked.now.apart in
     let what = meant_of a.what.now in
     let k = c.loop-k.k in
-    lifted_both a.asked.now.slots.now (by_bases q apart what a.resource a.z a.d k a.need) (by_base q apart what a.resource (a.z + k * a.d) a.need) (by_bases q apart what a.resource a.z a.d (k + 1) a.need) a.rows.now c.loop-k.rows c.lift-base.new.rows
+    lifted_both a.asked.now.slots.now (by_bases q apart what a.resource a.z a.d k a.need) (by_base q apart what a.resource (a.z + k * a.d) a.need) (by_bases q apart what a.resource a.z a.d (k + 1) a.need) a.rows.now c.loop-k.rows c.lift_base.new.rows
     (λ r p few.
     let one : ℕ → _ = λ k. takes q apart p what a.resource (a.z + k * a.d) in
     ap (λ b. ltb r a.need && b) (any_more one 0 k k (omega arith))
     ∙ and_over_or (ltb r a.need) (any one (range_with_len 0 k)) (one k))
     c.loop-k.invariant
-    c.lift-base.ensures
+    c.lift_base.ensures
 
 pub returns : goal.returns
 returns c =

@@ -6,7 +6,7 @@ use Rattle.reserving.specs.Lifts.{RowLifted, by_share, by_turn}
 use Rattle.reserving.proofs.Lifting.{row_same, row_none, and_none}
 use Rattle.reserving.proofs.Walked.{Walked, walked_set, walked_skip}
 use Rattle.reserving.proofs.lifts.lift_turn.Goals as goal
-use Rattle.reserving.proofs.lifts.lift_turn.Goals.{then-is-turn, else-is-turn}
+use Rattle.reserving.proofs.lifts.lift_turn.Goals.{then-is_turn, else-is_turn}
 
 pub loop-i-preserved : goal.loop-i-preserved
 loop-i-preserved c =
@@ -21,20 +21,20 @@ loop-i-preserved c =
     let here : c.is_turn.result ≡ now = c.is_turn.ensures ∙ ap (λ n. turn (index_of slots i) a.asked.now.apart n a.t) c.from-turns.ensures in
     let walked = c.loop-i.invariant.0 in
     let same = walked.1 i (omega arith) in
-    elim c.if-is-turn.branch [
-      | then-is-turn w ↦
+    elim c.if-is_turn.branch [
+      | then-is_turn w ↦
           let l : i < length c.loop-i.rows = omega arith in
-          let yes : now ≡ true = sym here ∙ w.if-is-turn.true in
-          let row = w.lift-row.new.row in (
+          let yes : now ≡ true = sym here ∙ w.if-is_turn.true in
+          let row = w.lift_row.new.row in (
             subst (λ ys. Walked [] R (i + 1) old ys) (sym w.rows-is)
                 (walked_set [] R i row old c.loop-i.rows l walked
                 (row_same (by_share q.length a.first a.many a.need) (test i) (get_or old i []) row
                 (λ r x. ap (λ b. ltb r a.need && (b && share x q.length a.first a.many)) yes)
-                (subst (λ b. RowLifted (by_share q.length a.first a.many a.need) b row) same w.lift-row.ensures))),
+                (subst (λ b. RowLifted (by_share q.length a.first a.many a.need) b row) same w.lift_row.ensures))),
             ap length w.rows-is ∙ length-set c.loop-i.rows i row ∙ c.loop-i.invariant.1,
           )
-      | else-is-turn w ↦
-          let no : now ≡ false = sym here ∙ w.if-is-turn.false in (
+      | else-is_turn w ↦
+          let no : now ≡ false = sym here ∙ w.if-is_turn.false in (
             subst (λ ys. Walked [] R (i + 1) old ys) (sym w.rows-is)
                 (walked_skip [] R i old c.loop-i.rows walked
                 (row_none (test i) (get_or old i []) (λ r x. ap (λ b. ltb r a.need && (b && share x q.length a.first a.many)) no ∙ and_none (ltb r a.need)))),

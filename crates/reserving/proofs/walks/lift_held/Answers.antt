@@ -13,10 +13,10 @@ use Rattle.reserving.proofs.Levelled.{levelled, has_level, same_bases}
 use Rattle.reserving.proofs.Lifting.{lifted_same, lifted_none}
 use Rattle.reserving.proofs.walks.lift_held.Goals as goal
 
-pub returns-in-default : goal.returns-in-default
-returns-in-default c =
+pub returns-in_default : goal.returns-in_default
+returns-in_default c =
     let a = c.args in
-    absurd (has_level (meaning a.pool.now) a.asked.now.question.priority a.held.now.what.priority c.requires.ready.priority c.requires.priority c.in-default.ensures)
+    absurd (has_level (meaning a.pool.now) a.asked.now.question.priority a.held.now.what.priority c.requires.ready.priority c.requires.priority c.in_default.ensures)
 
 pub returns-then-need-eq0 : goal.returns-then-need-eq0
 returns-then-need-eq0 c =
@@ -26,7 +26,7 @@ returns-then-need-eq0 c =
     let h = held_of a.held.now in
     let fits : SFits w16 h.rsrp = search rules in
     let value = levelled p q.priority h.what.priority c.in-Some.level c.in-Some.ensures in
-    let loud = simp to_z-of_z at c.freed-at-need.ensures in
+    let loud = simp to_z-of_z at c.freed_at-need.ensures in
     lifted_none a.asked.now.slots.now (by_held p q a.g a.z a.resource h) a.rows.now
     (λ r x few.
     ap (λ b. b && any (λ k. takes q (interval p q) x h.what a.resource (a.z + k * distance p h.what.code)) (range_with_len 0 (repeats p h.what.code a.g + 1)))
@@ -41,12 +41,12 @@ returns c =
     let code = h.what.code in
     let fits : SFits w16 h.rsrp = search rules in
     let value = levelled p q.priority h.what.priority c.in-Some.level c.in-Some.ensures in
-    let loud = simp to_z-of_z at c.freed-at-need.ensures in
-    lifted_same a.asked.now.slots.now (by_bases q a.asked.now.apart h.what a.resource a.z c.from-d.result (c.repeats-times.result + 1) c.freed-at-need.result) (by_held p q a.g a.z a.resource h) a.rows.now c.lift-bases.new.rows
+    let loud = simp to_z-of_z at c.freed_at-need.ensures in
+    lifted_same a.asked.now.slots.now (by_bases q a.asked.now.apart h.what a.resource a.z c.from-d.result (c.repeats-times.result + 1) c.freed_at-need.result) (by_held p q a.g a.z a.resource h) a.rows.now c.lift_bases.new.rows
     (λ r x few.
-    same_bases q h.what a.resource a.z x (above (level_of p q.priority h.what.priority) r h.rsrp) (ltb r c.freed-at-need.result) (interval p q) a.asked.now.apart (distance p code) c.from-d.result (repeats p code a.g) c.repeats-times.result
+    same_bases q h.what a.resource a.z x (above (level_of p q.priority h.what.priority) r h.rsrp) (ltb r c.freed_at-need.result) (interval p q) a.asked.now.apart (distance p code) c.from-d.result (repeats p code a.g) c.repeats-times.result
     (ap (λ v. above v r h.rsrp) (sym value) ∙ loud r few)
     (sym c.requires.ready.apart)
     (sym (c.from-d.ensures ∙ c.distance.ensures.value))
     (sym c.repeats-times.ensures.value))
-    c.lift-bases.ensures
+    c.lift_bases.ensures

@@ -13,10 +13,10 @@ loop-resource-preserved g c =
     let p = meaning a.pool.now in
     let q = question_of a.asked.now.question in
     let n = c.loop-resource.resource in
-    lifted_both a.asked.now.slots.now (by_index p m q n a.z) (by_resource p m q a.z n) (by_index p m q (n + 1) a.z) a.rows.now c.loop-resource.rows c.lift-resource.new.rows
+    lifted_both a.asked.now.slots.now (by_index p m q n a.z) (by_resource p m q a.z n) (by_index p m q (n + 1) a.z) a.rows.now c.loop-resource.rows c.lift_resource.new.rows
     (λ r x few. any_more (λ k. by_resource p m q a.z k r x) 0 n n (omega arith))
     c.loop-resource.invariant
-    c.lift-resource.ensures
+    c.lift_resource.ensures
 
 pub returns : goal.returns
 returns g c =

@@ -12,12 +12,12 @@ loop-k-preserved g c =
     let m = g.M.Asking.meaning a.m.now in
     let p = meaning a.pool.now in
     let q = question_of a.asked.now.question in
-    let low = c.next-index.result - c.window.result in
+    let low = c.next_index.result - c.window.result in
     let k = c.loop-k.k in
-    lifted_both a.asked.now.slots.now (by_window p m q low k) (by_index p m q m.channels (low + k)) (by_window p m q low (k + 1)) a.rows.now c.loop-k.rows c.lift-index.new.rows
+    lifted_both a.asked.now.slots.now (by_window p m q low k) (by_index p m q m.channels (low + k)) (by_window p m q low (k + 1)) a.rows.now c.loop-k.rows c.lift_index.new.rows
     (λ r x few. any_more (λ z. by_index p m q m.channels z r x) low k (low + k) refl)
     c.loop-k.invariant
-    c.lift-index.ensures
+    c.lift_index.ensures
 
 pub returns : goal.returns
 returns g c =
@@ -25,8 +25,8 @@ returns g c =
     let m = g.M.Asking.meaning a.m.now in
     let p = meaning a.pool.now in
     let q = question_of a.asked.now.question in
-    let low = c.next-index.result - c.window.result in
-    let n = c.next-index.ensures in
+    let low = c.next_index.result - c.window.result in
+    let n = c.next_index.ensures in
     let w = c.window.ensures in
     let e = c.window-k-end.ensures in
     let first : low ≡ m.next - m.window = omega arith in
