@@ -1,42 +1,16 @@
--- The orders of entries and of places are total, and what is sorted by them rises. Assumes nothing.
-use Rattle.std.proofs.Common.{◌≡◌, ℕ, Bool, true, false, List, length, Some, None, Option, Ordering}
-use Rattle.std.specs.Cmp.{IsTotalOrder}
+-- What is sorted by the orders of entries and of places rises. Assumes nothing.
+use Rattle.std.proofs.Common.{◌≡◌, ℕ, true, List, length}
 use Rattle.std.specs.Ordering.{is_lt}
 use Rattle.std.specs.List.Sorted.{IsSortedWithin}
 use Rattle.rules.specs.Ranks.{rank_by, rising}
-use Rattle.rules.proofs.Orders.{earlier_asym, earlier_ties, SomeUnder, by_asym, by_ties}
-use Rattle.rules.proofs.Totals.{total, sorted_by, sorted_rising}
-use Rattle.measuring.specs.Means.{fraction_of}
-use Rattle.measuring.specs.declared.Mean.{Mean}
-use Rattle.selecting.specs.Entries.{before, candidate_of, sooner, place_of}
+use Rattle.rules.proofs.Totals.{sorted_by, sorted_rising}
+use Rattle.selecting.specs.Entries.{before, sooner}
+use Rattle.selecting.specs.Orders.{sooner_asym, sooner_ties, before_asym, before_ties}
 use Rattle.selecting.specs.declared.Entry.{Entry}
 use Rattle.selecting.specs.declared.Place.{Place}
 
-pub sooner_asym : (a b : Place) → sooner a b ≡ true → sooner b a ≡ false
-sooner_asym a b = earlier_asym (place_of a) (place_of b)
-
-pub sooner_ties : (a b c : Place) → sooner a b ≡ false → sooner b c ≡ false → sooner a c ≡ false
-sooner_ties a b c = earlier_ties (place_of a) (place_of b) (place_of c)
-
-abbrev pub sooner_total : IsTotalOrder (λ (a b : Place) (o : Ordering). o ≡ rank_by sooner a b)
-sooner_total = total sooner sooner_asym sooner_ties
-
 pub sooner_rising : (xs : List Place) (n : ℕ) → length xs ≡ n → IsSortedWithin (λ a b. is_lt (rank_by sooner a b)) xs 0 n → rising sooner xs ≡ true
 sooner_rising xs n long up = sorted_rising sooner xs (sorted_by sooner sooner_asym sooner_ties xs n long up)
-
--- every mean of the code divides by something
-some_under : (o : Option Mean) → SomeUnder (fraction_of o)
-some_under None = tt
-some_under (Some a) = a.some
-
-pub before_asym : (a b : Entry) → before a b ≡ true → before b a ≡ false
-before_asym = by_asym (λ e. fraction_of e.mean) candidate_of
-
-pub before_ties : (a b c : Entry) → before a b ≡ false → before b c ≡ false → before a c ≡ false
-before_ties = by_ties (λ e. fraction_of e.mean) candidate_of (λ e. some_under e.mean)
-
-abbrev pub before_total : IsTotalOrder (λ (a b : Entry) (o : Ordering). o ≡ rank_by before a b)
-before_total = total before before_asym before_ties
 
 pub before_rising : (xs : List Entry) (n : ℕ) → length xs ≡ n → IsSortedWithin (λ a b. is_lt (rank_by before a b)) xs 0 n → rising before xs ≡ true
 before_rising xs n long up = sorted_rising before xs (sorted_by before before_asym before_ties xs n long up)

@@ -4,3 +4,4 @@ pub mod Lifts
 pub mod Made
 pub mod Chosen
 pub mod Marks
+pub mod Orders

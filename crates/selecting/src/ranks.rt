@@ -1,10 +1,9 @@
 // The order of candidates, and that of places.
-ghost use Rattle.std.specs.Prelude.{◌≡◌, Some, refl};
-ghost use Rattle.std.specs.Ordering.{is_eq};
+ghost use Rattle.std.specs.Prelude.{◌≡◌, refl};
+ghost use Rattle.std.specs.Ordering.{eq_by_cmp, as_partial_cmp};
 ghost use Rattle.rules.specs.Ranks.{rank_by};
 ghost use Rattle.selecting.specs.Entries.{before, sooner};
-ghost use Rattle.std.specs.Cmp.Rules.{comparing};
-ghost use Rattle.std.proofs.Common.{rules};
+ghost use Rattle.selecting.specs.Orders.{before_total, sooner_total};
 ghost use Rattle.std.specs.Cmp as Keys;
 ghost use Rattle.std.specs.Cmp.{partial_order_from_agreeing_total};
 
@@ -26,9 +25,9 @@ fn stands_before(a: &Entry, b: &Entry) -> bool
 }
 
 impl PartialEq for Entry {
-    ghost eq = { λ a b. is_eq (rank_by before a b) };
+    ghost eq = { eq_by_cmp (rank_by before) };
 
-    ghost laws = { Keys.partial_equiv_from_equiv (Prim.search (comparing, rules)) };
+    ghost laws = { Keys.partial_equiv_from_equiv (Keys.eq_by_cmp_equiv before_total) };
 
     fn eq(&self, other: &Entry) -> bool {
         self.cmp(other).is_eq()
@@ -36,13 +35,13 @@ impl PartialEq for Entry {
 }
 
 impl Eq for Entry {
-    ghost laws = { Prim.search (comparing, rules) };
+    ghost laws = { Keys.eq_by_cmp_equiv before_total };
 }
 
 impl PartialOrd for Entry {
-    ghost partial_cmp = { λ a b. Some (rank_by before a b) };
+    ghost partial_cmp = { as_partial_cmp (rank_by before) };
 
-    ghost laws = { partial_order_from_agreeing_total (λ a b. rank_by before a b) (Prim.search (comparing, rules)) (λ _ _. refl) (Prim.search (comparing, rules)) };
+    ghost laws = { partial_order_from_agreeing_total (rank_by before) before_total (λ _ _. refl) (λ _ _. refl) };
 
     fn partial_cmp(&self, other: &Entry) -> Option<Ordering> {
         Some(self.cmp(other))
@@ -50,13 +49,13 @@ impl PartialOrd for Entry {
 }
 
 impl Ord for Entry {
-    ghost cmp = { λ a b. rank_by before a b };
+    ghost cmp = { rank_by before };
 
-    ghost total = { Prim.search (comparing, rules) };
+    ghost total = { before_total };
 
-    ghost matches_partial_cmp = { Prim.search (comparing, rules) };
+    ghost matches_partial_cmp = { λ _ _. refl };
 
-    ghost matches_eq = { Prim.search (comparing, rules) };
+    ghost matches_eq = { λ _ _. refl };
 
     fn cmp(&self, other: &Entry) -> Ordering {
         if stands_before(self, other) {
@@ -77,9 +76,9 @@ fn comes_before(a: &Place, b: &Place) -> bool
 }
 
 impl PartialEq for Place {
-    ghost eq = { λ a b. is_eq (rank_by sooner a b) };
+    ghost eq = { eq_by_cmp (rank_by sooner) };
 
-    ghost laws = { Keys.partial_equiv_from_equiv (Prim.search (comparing, rules)) };
+    ghost laws = { Keys.partial_equiv_from_equiv (Keys.eq_by_cmp_equiv sooner_total) };
 
     fn eq(&self, other: &Place) -> bool {
         self.cmp(other).is_eq()
@@ -87,13 +86,13 @@ impl PartialEq for Place {
 }
 
 impl Eq for Place {
-    ghost laws = { Prim.search (comparing, rules) };
+    ghost laws = { Keys.eq_by_cmp_equiv sooner_total };
 }
 
 impl PartialOrd for Place {
-    ghost partial_cmp = { λ a b. Some (rank_by sooner a b) };
+    ghost partial_cmp = { as_partial_cmp (rank_by sooner) };
 
-    ghost laws = { partial_order_from_agreeing_total (λ a b. rank_by sooner a b) (Prim.search (comparing, rules)) (λ _ _. refl) (Prim.search (comparing, rules)) };
+    ghost laws = { partial_order_from_agreeing_total (rank_by sooner) sooner_total (λ _ _. refl) (λ _ _. refl) };
 
     fn partial_cmp(&self, other: &Place) -> Option<Ordering> {
         Some(self.cmp(other))
@@ -101,13 +100,13 @@ impl PartialOrd for Place {
 }
 
 impl Ord for Place {
-    ghost cmp = { λ a b. rank_by sooner a b };
+    ghost cmp = { rank_by sooner };
 
-    ghost total = { Prim.search (comparing, rules) };
+    ghost total = { sooner_total };
 
-    ghost matches_partial_cmp = { Prim.search (comparing, rules) };
+    ghost matches_partial_cmp = { λ _ _. refl };
 
-    ghost matches_eq = { Prim.search (comparing, rules) };
+    ghost matches_eq = { λ _ _. refl };
 
     fn cmp(&self, other: &Place) -> Ordering {
         if comes_before(self, other) {

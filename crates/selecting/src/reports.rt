@@ -37,7 +37,7 @@ fn sort_first(places: [Place; 400], n: usize) -> [Place; 400]
     ensures ordered { rising sooner (take n result) ≡ true }
 {
     let mut all = places;
-    all[..n].sort();
+    all[..n].sort_unstable();
     all
 }
 
@@ -64,7 +64,7 @@ fn rank_first(entries: &mut [Entry], n: usize)
     ensures shuffled { IsPermutation (take n entries.old) (take n entries.new) }
     ensures ordered { rising before (take n entries.new) ≡ true }
 {
-    entries[..n].sort();
+    entries[..n].sort_unstable();
 }
 
 // Reports the first fifth, in the order of choosing, of the entries that survive at a raise. The raise leaves so many.

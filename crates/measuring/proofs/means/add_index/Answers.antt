@@ -23,6 +23,6 @@ returns g c =
     let held : total rs q.length x ≡ power m q x a.z = sum_by_same (λ r. get_or rs r 0) (λ r. get_or (readings_in (m.cell a.z)) r 0) x q.length (λ r _ h. heard.1 r (omega arith)) in
     omega arith in
     record {
-      added = λ i l. added_heard m q a.step a.z (index_of a.slots.now i) row (sum_at a.sums.now i) (sum_at c.add-all.new.sums i) heard.0 same (c.add-all.ensures i l);
-      small = λ k all i l. small_more k (lies a.step a.z (index_of a.slots.now i)) row (sum_at a.sums.now i) (sum_at c.add-all.new.sums i) (all i l) (c.add-all.ensures i l) c.powers-row.ensures.few;
+      added = λ i l. added_heard m q a.step a.z (index_of a.slots.now i) row (sum_at a.sums.now i) (sum_at c.add_all.new.sums i) heard.0 same (c.add_all.ensures i l);
+      small = λ k all i l. small_more k (lies a.step a.z (index_of a.slots.now i)) row (sum_at a.sums.now i) (sum_at c.add_all.new.sums i) (all i l) (c.add_all.ensures i l) c.powers-row.ensures.few;
     }

@@ -12,16 +12,16 @@ pub loop-k-init : goal.loop-k-init
 loop-k-init g c =
     let m = g.M.Asking.meaning c.args.m.now in
     let q = question_of c.args.q.now in
-    let low = c.next-index.result - c.window-window.result in
+    let low = c.next_index.result - c.window-window.result in
     let few = c.slots-slots.ensures.few in (
-      (λ i l. walked_none m q c.sample-step-step.result low (index_of c.slots-slots.result.now i) i (omega arith)),
+      (λ i l. walked_none m q c.sample_step-step.result low (index_of c.slots-slots.result.now i) i (omega arith)),
       (λ i l. small_none i (omega arith)),
     )
 
-pub add-index-requires : goal.add-index-requires
-add-index-requires g c =
+pub add_index-requires : goal.add_index-requires
+add_index-requires g c =
     let s = g.M.Asking.sound c.args.m.now in
-    let n = c.next-index.ensures in
+    let n = c.next_index.ensures in
     let w = c.window-window.ensures in
     let old = s.old in
     let short = s.short in
@@ -31,9 +31,9 @@ pub loop-k-preserved : goal.loop-k-preserved
 loop-k-preserved g c =
     let m = g.M.Asking.meaning c.args.m.now in
     let q = question_of c.args.q.now in
-    let low = c.next-index.result - c.window-window.result in (
-      (λ i l. walked_more m q c.sample-step-step.result low c.loop-k.k (index_of c.slots-slots.result.now i) (sum_at c.loop-k.sums i) (sum_at c.add-index.new.sums i) (c.loop-k.invariant.0 i l) (c.add-index.ensures.added i l)),
-      c.add-index.ensures.small c.loop-k.k c.loop-k.invariant.1,
+    let low = c.next_index.result - c.window-window.result in (
+      (λ i l. walked_more m q c.sample_step-step.result low c.loop-k.k (index_of c.slots-slots.result.now i) (sum_at c.loop-k.sums i) (sum_at c.add_index.new.sums i) (c.loop-k.invariant.0 i l) (c.add_index.ensures.added i l)),
+      c.add_index.ensures.small c.loop-k.k c.loop-k.invariant.1,
     )
 
 pub returns : goal.returns
@@ -42,14 +42,14 @@ returns g c fit i x l h w =
     let p = meaning c.args.pool.now in
     let q = question_of c.args.q.now in
     let slots = c.slots-slots.ensures.value in
-    let low = c.next-index.result - c.window-window.result in
-    let n = c.next-index.ensures in
+    let low = c.next_index.result - c.window-window.result in
+    let n = c.next_index.ensures in
     let v = c.window-window.ensures in
     let same = fit.window in
     let first : low ≡ m.next - window p = omega arith in
     let many : c.loop-k.k ≡ window p = omega arith in
     let few : i < length c.slots-slots.result.now = omega (arith, ap length slots) in
     let wide : x + q.length ≤ m.channels = omega (arith, fit.channels) in
-    c.rows-of.ensures i x few h
-    ∙ walked_mean p m q c.sample-step-step.result low c.loop-k.k (index_of c.slots-slots.result.now i) x (sum_at c.loop-k.sums i) c.sample-step-step.ensures first many (c.loop-k.invariant.0 i few) h wide
+    c.rows_of.ensures i x few h
+    ∙ walked_mean p m q c.sample_step-step.result low c.loop-k.k (index_of c.slots-slots.result.now i) x (sum_at c.loop-k.sums i) c.sample_step-step.ensures first many (c.loop-k.invariant.0 i few) h wide
     ∙ ap (λ xs. mean p m q (place_of xs i x)) slots

@@ -4,11 +4,11 @@ use Rattle.sensing.proofs.Examine.{reading_out}
 use Rattle.measuring.proofs.Hearing.{heard_some}
 use Rattle.measuring.proofs.means.readings_at.Goals as goal
 
-pub returns-in-default : goal.returns-in-default
-returns-in-default g c =
+pub returns-in_default : goal.returns-in_default
+returns-in_default g c =
     let m = g.M.Asking.meaning c.args.m.now in
     let end = c.channels-a-end.ensures in
-    absurd (reading_out m c.args.z c.loop-a.a (number c.in-default.field-0) c.requires (omega arith) c.in-default.ensures)
+    absurd (reading_out m c.args.z c.loop-a.a (number c.in_default.field-0) c.requires (omega arith) c.in_default.ensures)
 
 pub loop-a-preserved : goal.loop-a-preserved
 loop-a-preserved g c =
