@@ -1,8 +1,8 @@
 use Rattle.selecting.proofs.Asked.{asked_some, asked_none}
 use Rattle.selecting.proofs.Report.place.Goals as goal
 
-pub returns-in-default : goal.returns-in-default
-returns-in-default c = asked_none c.args.self.now c.args.i c.in-default.ensures
+pub returns-in_default : goal.returns-in_default
+returns-in_default c = asked_none c.args.self.now c.args.i c.in_default.ensures
 
 pub returns : goal.returns
 returns c =

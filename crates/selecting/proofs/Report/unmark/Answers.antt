@@ -4,8 +4,8 @@ use Rattle.selecting.proofs.Asked.{left_many, left_at}
 use Rattle.selecting.proofs.Marked.{marks_removed}
 use Rattle.selecting.proofs.Report.unmark.Goals as goal
 
-pub returns-in-default : goal.returns-in-default
-returns-in-default c = let r = c.args.self.now in let many = left_many r in let h = c.in-default.ensures in (refl, omega arith, refl)
+pub returns-in_default : goal.returns-in_default
+returns-in_default c = let r = c.args.self.now in let many = left_many r in let h = c.in_default.ensures in (refl, omega arith, refl)
 
 pub returns : goal.returns
 returns c =

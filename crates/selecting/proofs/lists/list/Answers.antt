@@ -18,7 +18,7 @@ loop-i-preserved c =
     let row = get_or ms i c.index-means-i.result in
     let same : row ≡ get_or ms i silent = get_or_default ms i c.index-means-i.result silent here in
     let before = rows_of slots a.width a.needs.now ms i in (
-      c.list-slot.ensures
+      c.list_slot.ensures
           ∙ ap (λ xs. xs ++ map (entry_at (get_or slots i origin) (get_or a.needs.now i []) row) (range_with_len 0 a.width)) c.loop-i.invariant.0
           ∙ ap (λ r. before ++ map (entry_at (get_or slots i origin) (get_or a.needs.now i []) r) (range_with_len 0 a.width)) same
           ∙ sym (rows_more (row_of slots a.width a.needs.now ms) i),

@@ -18,7 +18,7 @@ loop-x-preserved c =
     let here : x < length ms = omega arith in
     let got = get_or ms x c.index-means-x.result in
     let mean : got ≡ get_or ms x None = get_or_default ms x c.index-means-x.result None here in
-    let put : Option Mean → Entry = λ o. record { slot = a.slot; channel = x; goal = get_or a.needs.now x 0; mean = o } in
+    let put : Option Mean → Entry = λ o. record { slot = a.slot; channel = x; need = get_or a.needs.now x 0; mean = o } in
     let e = put got in
     let f = entry_at a.slot a.needs.now a.means.now in
     let front = take n a.entries.now in

@@ -1,4 +1,4 @@
-use Rattle.std.proofs.Common.{◌≡◌, true, false, ◌++◌, length, take, drop, sym, ap, ◌∙◌, subst, arith, length-take}
+use Rattle.std.proofs.Common.{◌≡◌, true, false, ◌++◌, length, take, drop, sym, refl, ap, ◌∙◌, subst, arith, length-take}
 use Rattle.std.specs.List.Sorted.{IsPermutation}
 use Rattle.std.proofs.lemmas.List.{take_at}
 use Rattle.rules.specs.Ranks.{rising}
@@ -15,5 +15,5 @@ returns c =
     let front : take n (ys ++ drop n xs) ≡ ys = take_at ys (drop n xs) n long in
     record {
       shuffled = subst (λ zs. IsPermutation (take n xs) zs) (sym front) c.sort_unstable.ensures.permutation;
-      ordered = ap (rising before) front ∙ before_rising ys _ c.sort_unstable.ensures.len c.sort_unstable.ensures.sorted;
+      ordered = ap (rising before) front ∙ before_rising ys _ refl c.sort_unstable.ensures.sorted;
     }

@@ -1,4 +1,4 @@
-use Rattle.std.proofs.Common.{◌≡◌, true, false, ◌++◌, length, take, drop, sym, ap, ◌∙◌, subst, arith, length-take}
+use Rattle.std.proofs.Common.{◌≡◌, true, false, ◌++◌, length, take, drop, sym, refl, ap, ◌∙◌, subst, arith, length-take}
 use Rattle.std.specs.List.Sorted.{IsPermutation}
 use Rattle.std.proofs.lemmas.List.{take_at}
 use Rattle.rules.specs.Ranks.{rising}
@@ -14,5 +14,5 @@ returns c =
     let front : take n (ys ++ drop n c.args.places) ≡ ys = take_at ys (drop n c.args.places) n long in
     record {
       shuffled = subst (λ xs. IsPermutation (take n c.args.places) xs) (sym front) c.sort_unstable.ensures.permutation;
-      ordered = ap (rising sooner) front ∙ sooner_rising ys _ c.sort_unstable.ensures.len c.sort_unstable.ensures.sorted;
+      ordered = ap (rising sooner) front ∙ sooner_rising ys _ refl c.sort_unstable.ensures.sorted;
     }
