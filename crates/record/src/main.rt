@@ -8,6 +8,7 @@ ghost use Rattle.record.specs.Lines.{fields};
 use anyhow::anyhow;
 use format1::{Record, read};
 use std::alloc::{AllocError, Global};
+use std::process::ExitCode;
 use std::{fmt, io};
 
 // Shown where the input is empty.
@@ -137,10 +138,11 @@ fn run(rt: &HostRuntime) -> anyhow::Result<()> {
     Ok(())
 }
 
-fn main(rt: HostRuntime) -> anyhow::Result<()> {
-    let result = run(&rt);
-    if let Err(e) = &result {
-        eprintln!(rt; "record: {e}")?;
-    }
-    result
+fn main(rt: HostRuntime) -> ExitCode {
+    let Err(e) = run(&rt) else {
+        return ExitCode::SUCCESS;
+    };
+    // Where even this cannot be written, the status still says that the input was not read.
+    let _said = eprintln!(rt; "record: {e}");
+    ExitCode::FAILURE
 }
