@@ -1,18 +1,17 @@
 -- What a selection over the list of all candidates answers, by the definitions. Assumes nothing.
-use Rattle.std.proofs.Common.{◌≡◌, ℕ, zero, suc, ◌+◌, ◌-◌, ◌^◌, ◌<◌, ◌≤◌, Bool, true, false, cond, List, [], ◌∷◌, ◌++◌, map, length, get_or, take, replicate, Ok, Err, filter, Result, sym, refl, ap, ◌∙◌, subst, inl, inr, ⊎_elim, arith}
+use Rattle.std.proofs.Common.{◌≡◌, ℕ, zero, suc, ◌+◌, ◌<◌, ◌≤◌, Bool, true, false, List, ◌∷◌, map, length, get_or, take, replicate, Ok, Err, filter, sym, refl, ap, ◌∙◌, subst, inr, arith}
 use Rattle.std.specs.List.{range_with_len, AllByRecursion as All}
 use Rattle.std.proofs.lemmas.List.FromFn.{fill_by_all}
 use Rattle.std.proofs.ByRecursion.{All-map, All-take, all_kept_by, all_shuffled}
 use Rattle.std.proofs.lemmas.List.{get_or-replicate, get_or-take, length-take-le}
-use Rattle.answer.specs.Numbers.{number}
 use Rattle.answer.specs.declared.Refusal.{Refusal}
-use Rattle.rules.specs.Calendar.{Pool, window}
-use Rattle.rules.specs.Choose.{Question, candidates, enough, Fewest, report, interval, choose_questions, fifth}
+use Rattle.rules.specs.Calendar.{Pool}
+use Rattle.rules.specs.Choose.{Question, candidates, enough, interval, choose_questions, fifth}
 use Rattle.rules.specs.ChooseLaws.{FairWindow}
 use Rattle.rules.specs.Configure.{within}
 use Rattle.rules.specs.Counting.{first_no}
 use Rattle.rules.specs.Reports.{Reported}
-use Rattle.rules.specs.Sensing.{Meaning, Sound, Fair, Held}
+use Rattle.rules.specs.Sensing.{Meaning, Sound, Fair}
 use Rattle.rules.proofs.Enough.{never}
 use Rattle.rules.proofs.Reports.{report_law}
 use Rattle.choosing.specs.Asked.{question_of}
@@ -20,11 +19,10 @@ use Rattle.choosing.specs.Fits.{Fit}
 use Rattle.choosing.specs.declared.Question.{Question as Asked}
 use Rattle.selecting.specs.Chosen.{Selected, Chosen, Answers, SetSubframe}
 use Rattle.selecting.specs.Entries.{candidate_of, reported, nowhere}
-use Rattle.selecting.specs.Lifts.{leaves, NoneBelow}
+use Rattle.selecting.specs.Lifts.{NoneBelow}
 use Rattle.selecting.specs.Lists.{free}
-use Rattle.selecting.specs.Made.{shown, places_of, marks, left, Ranked, Of}
+use Rattle.selecting.specs.Made.{shown, marks, left}
 use Rattle.selecting.specs.declared.Entry.{Entry}
-use Rattle.selecting.specs.declared.Place.{Place}
 use Rattle.selecting.specs.declared.Report.{Report}
 use Rattle.selecting.proofs.Told.{Told, enough_told, report_told}
 

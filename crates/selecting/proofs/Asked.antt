@@ -1,11 +1,10 @@
 -- The report question, by where its place stands. Assumes nothing.
-use Rattle.std.proofs.Common.{◌≡◌, ℕ, ◌<◌, ◌≤◌, true, false, cond, ltb, length, get_or, Ok, Err, sym, refl, ap, ◌∙◌, arith}
+use Rattle.std.proofs.Common.{◌≡◌, ℕ, ◌<◌, ◌≤◌, true, false, cond, length, get_or, Ok, Err, sym, ap, ◌∙◌, arith}
 use Rattle.std.proofs.lemmas.List.{length-map, get_or-map}
 use Rattle.std.proofs.lemmas.Bool.{lt-ltb, le-ltb}
 use Rattle.selecting.specs.Entries.{nowhere}
 use Rattle.selecting.specs.Made.{marks, left}
 use Rattle.selecting.specs.Marks.{asked_place}
-use Rattle.selecting.specs.declared.Place.{Place}
 use Rattle.selecting.specs.declared.Report.{Report}
 use Rattle.selecting.proofs.Marked.{mark_at}
 

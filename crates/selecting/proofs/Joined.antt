@@ -1,16 +1,16 @@
 -- A selection from what was found, needed and heard. Assumes nothing.
-use Rattle.std.proofs.Common.{◌≡◌, ℕ, ◌+◌, ◌-◌, ◌<◌, ◌≤◌, Bool, true, false, ◌&&◌, ltb, leb, List, [], ◌∷◌, map, length, Ok, Err, Result, sym, refl, ap, ◌∙◌, inl, inr, arith}
+use Rattle.std.proofs.Common.{◌≡◌, ℕ, ◌<◌, ◌≤◌, true, ◌&&◌, ltb, leb, List, length, Ok, Err, Result, refl, inl, arith}
 use Rattle.std.proofs.lemmas.Bool.{and_parts, leb-true, ltb-true}
 use Rattle.answer.specs.Numbers.{number}
 use Rattle.answer.specs.declared.Refusal.{Refusal}
 use Rattle.answer.proofs.Some.{number_some}
-use Rattle.rules.specs.Calendar.{Pool, allowed}
+use Rattle.rules.specs.Calendar.{Pool}
 use Rattle.rules.specs.Choose.{Question, candidates, interval, choose_questions}
 use Rattle.rules.specs.Configure.{within}
 use Rattle.rules.specs.Counting.{first_no}
 use Rattle.rules.specs.Sensing.{Meaning, Sound}
 use Rattle.rules.proofs.Configured.{all_yes}
-use Rattle.rules.proofs.Limits.{Limits, limits}
+use Rattle.rules.proofs.Limits.{limits}
 use Rattle.rules.proofs.Lists.{every_at}
 use Rattle.choosing.specs.Asked.{question_of}
 use Rattle.choosing.specs.Fits.{Fit}

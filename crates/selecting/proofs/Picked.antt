@@ -1,5 +1,5 @@
 -- From the list that the code writes to the list of the candidates. Assumes nothing.
-use Rattle.std.proofs.Common.{◌≡◌, ℕ, ◌≤◌, true, List, length, Ok, Err, sym, ap, ◌∙◌, subst}
+use Rattle.std.proofs.Common.{◌≡◌, ℕ, ◌≤◌, true, List, length, Ok, sym, ap, ◌∙◌, subst}
 use Rattle.choosing.specs.declared.Question.{Question}
 use Rattle.choosing.specs.declared.Slot.{Slot}
 use Rattle.measuring.specs.declared.MeanRow.{MeanRow}

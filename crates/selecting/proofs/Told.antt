@@ -1,5 +1,5 @@
 -- What the list of all candidates says of the survivors, and what a report made from it is. Assumes nothing.
-use Rattle.std.proofs.Common.{◌≡◌, ℕ, zero, suc, ◌+◌, ◌*◌, ◌<◌, ◌≤◌, Bool, true, false, cond, not, ◌&&◌, ◌||◌, leb, ◌⊎◌, List, [], ◌∷◌, ◌++◌, map, length, take, count_by, filter, sym, refl, ap, ◌∙◌, subst, inl, inr, ⊎_elim, arith}
+use Rattle.std.proofs.Common.{◌≡◌, ℕ, ◌*◌, ◌≤◌, Bool, true, false, not, ◌&&◌, ◌||◌, leb, List, [], ◌∷◌, map, length, take, count_by, filter, sym, refl, ap, ◌∙◌, inl, inr, ⊎_elim}
 use mathlib.Core.List.{map-map}
 use Rattle.std.specs.List.Sorted.{IsPermutation}
 use Rattle.std.specs.List.{AllByRecursion as All}
@@ -8,7 +8,7 @@ use Rattle.std.proofs.lemmas.List.{length-map, take-map}
 use Rattle.std.proofs.lemmas.List.Sums.{length-filter}
 use Rattle.std.proofs.lemmas.Bool.{cases_Bool}
 use Rattle.rules.specs.Calendar.{Pool}
-use Rattle.rules.specs.Choose.{Question, Place as Meant, candidates, survives, survivors, enough, mean, lower, earlier, ahead, ordered, fifth, report}
+use Rattle.rules.specs.Choose.{Question, candidates, survives, survivors, enough, mean, lower, earlier, ahead, ordered, fifth, report}
 use Rattle.rules.specs.Ranks.{rising}
 use Rattle.rules.specs.Reports.{In}
 use Rattle.rules.specs.Sensing.{Meaning}
@@ -20,7 +20,7 @@ use Rattle.measuring.specs.Means.{fraction_of}
 use Rattle.selecting.specs.Entries.{candidate_of, before, place_of, sooner, reported}
 use Rattle.selecting.specs.Lists.{free}
 use Rattle.selecting.specs.Lifts.{leaves}
-use Rattle.selecting.specs.Made.{shown, places_of, Of, Ranked}
+use Rattle.selecting.specs.Made.{shown, places_of, Ranked}
 use Rattle.selecting.specs.declared.Entry.{Entry}
 use Rattle.selecting.specs.declared.Place.{Place}
 use Rattle.selecting.specs.declared.Report.{Report}

@@ -1,5 +1,5 @@
 -- Candidates as they are ranked, and places as they are reported. Assumes nothing.
-use Rattle.std.specs.Prelude.{◌≡◌, ℕ, Bool, not, ◌&&◌, ◌||◌, List, []}
+use Rattle.std.specs.Prelude.{Bool, not, ◌&&◌, ◌||◌}
 use Rattle.rules.specs.Choose.{Place as Meant, lower, earlier}
 use Rattle.measuring.specs.Means.{fraction_of}
 use Rattle.selecting.specs.declared.Entry.{Entry}

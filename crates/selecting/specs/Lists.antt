@@ -1,5 +1,5 @@
 -- The list of all candidates, with what is known of each. Assumes nothing.
-use Rattle.std.specs.Prelude.{◌≡◌, ℕ, Bool, List, [], map, None, nat_le, slice_index, slice_index_or}
+use Rattle.std.specs.Prelude.{ℕ, Bool, List, [], map, None, nat_le, slice_index, slice_index_or}
 use Rattle.std.specs.List.{range_with_len, flat_map}
 use Rattle.choosing.specs.Slots.{origin}
 use Rattle.choosing.specs.declared.Slot.{Slot}

@@ -1,5 +1,5 @@
 -- The report question, and a place that is taken from a report. Assumes nothing.
-use Rattle.std.specs.Prelude.{◌≡◌, ℕ, suc, ◌<◌, ◌≤◌, Bool, cond, List, ◌++◌, length, get_or, take, drop, Ok, Err, Result, nat_lt, slice_index_or}
+use Rattle.std.specs.Prelude.{◌≡◌, ℕ, suc, ◌<◌, ◌≤◌, cond, ◌++◌, length, get_or, take, drop, Ok, Err, Result, nat_lt, slice_index_or}
 use Rattle.answer.specs.Numbers.{number}
 use Rattle.answer.specs.declared.Refusal.{Refusal}
 use Rattle.selecting.specs.Entries.{nowhere}

@@ -1,5 +1,5 @@
 -- The orders of entries and of places are total: the laws of `cmp`. Assumes nothing.
-use Rattle.std.specs.Prelude.{◌≡◌, Bool, true, false, Some, None, Option}
+use Rattle.std.specs.Prelude.{◌≡◌, true, false, Some, None, Option}
 use Rattle.std.specs.Cmp.{IsTotalOrder}
 use Rattle.rules.specs.Ranks.{rank_by}
 use Rattle.rules.proofs.Orders.{earlier_asym, earlier_ties, SomeUnder, by_asym, by_ties}

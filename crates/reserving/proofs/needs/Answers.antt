@@ -3,7 +3,7 @@ use Rattle.std.specs.List.{range_with_len}
 use Rattle.std.proofs.lemmas.List.{length-take, get_or-replicate, get_or-take}
 use Rattle.std.proofs.lemmas.Bool.{le-ltb}
 use Rattle.std.proofs.lemmas.Bool.Decides.{nat_tests}
-use Rattle.rules.specs.Calendar.{Pool, window}
+use Rattle.rules.specs.Calendar.{Pool}
 use Rattle.rules.specs.Choose.{Question, Place, reserved_at, blinded}
 use Rattle.rules.specs.Counting.{any}
 use Rattle.rules.specs.Sensing.{Meaning}

@@ -1,7 +1,4 @@
-use Rattle.std.proofs.Common.{◌≡◌, length, get_or, sym, ap, ◌∙◌, arith}
-use Rattle.std.proofs.lemmas.List.{length-map}
-use Rattle.selecting.specs.Entries.{nowhere}
-use Rattle.selecting.specs.Made.{marks}
+use Rattle.std.proofs.Common.{length, ap, arith}
 use Rattle.selecting.proofs.Marked.{marks_yes, marks_no}
 use Rattle.selecting.proofs.Report.position.Goals as goal
 use Rattle.selecting.proofs.Report.position.Goals.{then-self-k+else-seen-i, else-self-k}

@@ -1,4 +1,4 @@
-use Rattle.std.proofs.Common.{◌≡◌, get_or, refl, arith}
+use Rattle.std.proofs.Common.{get_or, refl, arith}
 use Rattle.selecting.specs.Entries.{nowhere}
 use Rattle.selecting.proofs.Asked.{left_many, left_at}
 use Rattle.selecting.proofs.Marked.{marks_removed}

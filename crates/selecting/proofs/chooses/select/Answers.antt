@@ -1,4 +1,4 @@
-use Rattle.std.proofs.Common.{◌≡◌, length, take, refl, subst}
+use Rattle.std.proofs.Common.{length, take, refl, subst}
 use Rattle.choosing.specs.Found.{slots_of}
 use Rattle.selecting.specs.Lists.{rows_of}
 use Rattle.selecting.specs.Lifts.{NoneBelow}

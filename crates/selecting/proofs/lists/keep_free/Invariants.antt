@@ -1,4 +1,3 @@
-use Rattle.std.proofs.Common.{◌≡◌, ◌≤◌, length}
 use Rattle.std.proofs.lemmas.List.Filters.{FiltersInPlace}
 use Rattle.selecting.specs.Lists.{free}
 use Rattle.selecting.proofs.lists.keep_free.Given as goal

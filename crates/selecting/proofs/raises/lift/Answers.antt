@@ -1,4 +1,4 @@
-use Rattle.std.proofs.Common.{◌≡◌, ◌*◌, ◌≤◌, true, false, leb, length, sym, ap, ◌∙◌, subst, arith, below_more}
+use Rattle.std.proofs.Common.{sym, ap, ◌∙◌, subst, arith, below_more}
 use Rattle.std.proofs.lemmas.Bool.{le-leb, lt-leb}
 use Rattle.selecting.specs.Lifts.{leaves, NoneBelow}
 use Rattle.selecting.proofs.raises.lift.Goals as goal

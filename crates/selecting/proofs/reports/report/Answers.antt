@@ -1,11 +1,11 @@
-use Rattle.std.proofs.Common.{◌≡◌, ◌+◌, ◌*◌, ◌/◌, ◌≤◌, length, take, count_by, filter, sym, ap, ◌∙◌, subst, arith, length-take}
+use Rattle.std.proofs.Common.{◌*◌, ◌≤◌, length, take, count_by, sym, ap, subst, arith, length-take}
 use Rattle.std.specs.List.Sorted.{IsPermutation}
 use Rattle.std.proofs.lemmas.List.{take-take}
 use Rattle.std.proofs.lemmas.List.Sums.{length-filter}
 use Rattle.std.proofs.lemmas.Bool.{leb-true}
 use Rattle.rules.specs.Choose.{fifth}
 use Rattle.selecting.specs.Lists.{free}
-use Rattle.selecting.specs.Made.{Of, Ranked}
+use Rattle.selecting.specs.Made.{Of}
 use Rattle.selecting.proofs.reports.report.Goals as goal
 
 pub returns : goal.returns
