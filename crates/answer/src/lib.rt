@@ -137,7 +137,7 @@ impl Refusal {
     }
 }
 
-// Equal refusals are those with equal numbers. A derived `==` would say nothing at so many cases.
+// Equal refusals are those with equal numbers, and they are the same refusal.
 impl PartialEq for Refusal {
     ghost eq = { on number_of nat_eq };
 

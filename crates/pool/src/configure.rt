@@ -12,6 +12,7 @@ use crate::{Pool, Settings};
 use answer::Refusal;
 
 // Is each level at most 66?
+#[tactic(auto, using(rules::proofs::Lists::every_below))]
 fn levels_ok(levels: &[u8]) -> bool
     ensures { result ≡ levels_ok levels.now }
 {

@@ -1,7 +1,7 @@
 -- Tests over lists, by places. Assumes nothing.
-use Rattle.std.proofs.Common.{◌≡◌, ℕ, zero, suc, ◌+◌, ◌-◌, ◌<◌, Bool, true, false, not, ◌&&◌, List, [], ◌∷◌, length, get_or, take, drop, sym, refl, ⊎_elim, add-one, arith, length-drop, drop-cons}
+use Rattle.std.proofs.Common.{◌≡◌, ℕ, zero, suc, ◌+◌, ◌-◌, ◌<◌, ◌≤◌, Bool, true, false, not, ◌&&◌, ◌⊎◌, leb, List, [], ◌∷◌, length, get_or, take, drop, sym, refl, inl, inr, ⊎_elim, add-one, arith, length-drop, drop-cons}
 use Rattle.std.proofs.lemmas.List.{take_all}
-use Rattle.std.proofs.lemmas.Bool.{and_parts, and_from, and_left, and_right, or_cases, or_left, or_right, or_from, true≢false}
+use Rattle.std.proofs.lemmas.Bool.{and_parts, and_from, and_left, and_right, or_cases, or_left, or_right, or_from, true≢false, cases_Bool, leb-true}
 use Rattle.rules.specs.Counting.{any, every, among, distinct}
 
 -- two tests that imply each other answer alike
@@ -41,6 +41,14 @@ module _ {X : Type 0} (p : X → Bool) where
   every_fails [] d k h t = absurd (omega arith)
   every_fails (x ∷ xs) d zero h t = and_left (p x) (every p xs) t
   every_fails (x ∷ xs) d (suc k) h t = and_right (p x) (every p xs) (every_fails xs d k (omega arith) t)
+
+-- a number of a list is at most b, or not all of them are
+pub every_below : (b : ℕ) (xs : List ℕ) (k : ℕ) → k < length xs → (get_or xs k 0 ≤ b) ⊎ (every (λ l. leb l b) xs ≡ false)
+every_below b xs k h =
+    ⊎_elim
+    (λ (t : leb (get_or xs k 0) b ≡ true). inl (leb-true (get_or xs k 0) b t))
+    (λ (t : leb (get_or xs k 0) b ≡ false). inr (every_fails (λ l. leb l b) xs 0 k h t))
+    (cases_Bool (leb (get_or xs k 0) b))
 
 -- what is left of a list from i on
 pub rest_is : (xs : List ℕ) (i : ℕ) → take (length xs - i) (drop i xs) ≡ drop i xs

@@ -109,7 +109,7 @@ module _ {X : Type 0} (before : X → X → Bool) (asym : (a b : X) → before a
   abbrev pub total : IsTotalOrder r
   total = record { antisymm = flips; trans = chains; congr = alike }
 
-  -- what `sort` ensures puts the elements in order
+  -- what sorting ensures puts the elements in order
   sorted_from : (xs : List X) → ((i j : ℕ) (d : X) → i ≤ j → j < length xs → before (get_or xs j d) (get_or xs i d) ≡ false) → Sorted before xs
   sorted_from [] h = tt
   sorted_from (x ∷ xs) h = (

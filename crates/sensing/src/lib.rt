@@ -178,6 +178,7 @@ pub fn examine_record<M: Asking>(
 }
 
 // Are there n readings, each at most 4,000,000,000?
+#[tactic(auto, using(rules::proofs::Lists::every_below))]
 fn readings_ok(n: u8, readings: &[u32]) -> bool
     ensures { result ≡ readings_ok n readings.now }
 {

@@ -1,14 +1,10 @@
 use Rattle.std.proofs.Common.{leb, sym, arith, below_more}
-use Rattle.std.proofs.lemmas.Bool.{le-leb, lt-leb, eq-eqb, and_from, and_right}
-use Rattle.rules.proofs.Lists.{every_from, every_fails}
+use Rattle.std.proofs.lemmas.Bool.{le-leb, eq-eqb, and_from}
+use Rattle.rules.proofs.Lists.{every_from}
 use Rattle.sensing.proofs.readings_ok.Goals as goal
 
-pub returns-then-reading-gt4000000000 : goal.returns-then-reading-gt4000000000
-returns-then-reading-gt4000000000 c =
-    sym (and_right _ _ (every_fails (λ r. leb r 4000000000) c.args.readings.now 0 c.loop-reading.reading-index (omega arith) (lt-leb _ _ c.if-reading-gt4000000000.true)))
-
 pub loop-reading-preserved : goal.loop-reading-preserved
-loop-reading-preserved c = below_more _ _ c.loop-reading.invariant (le-leb _ _ c.if-reading-gt4000000000.false)
+loop-reading-preserved c = below_more _ _ c.loop-reading.invariant (le-leb _ _ (omega arith))
 
 pub returns : goal.returns
 returns c =
