@@ -1,6 +1,6 @@
 -- What a selection over the list of all candidates answers, by the definitions. Assumes nothing.
 use Rattle.std.proofs.Common.{◌≡◌, ℕ, zero, suc, ◌+◌, ◌<◌, ◌≤◌, Bool, true, false, List, ◌∷◌, map, length, get_or, take, replicate, Ok, Err, filter, sym, refl, ap, ◌∙◌, subst, inr, arith}
-use Rattle.std.specs.List.{range_with_len, AllByRecursion as All}
+use Rattle.std.specs.List.{range_with_len, AllByRecursion}
 use Rattle.std.proofs.lemmas.List.FromFn.{fill_by_all}
 use Rattle.std.proofs.ByRecursion.{All-map, All-take, all_kept_by, all_shuffled}
 use Rattle.std.proofs.lemmas.List.{get_or-replicate, get_or-take, length-take-le}
@@ -52,7 +52,7 @@ all_left r all =
     ap (map (λ k. get_or r.places k nowhere)) mark
     ∙ sym (fill_by_all (λ k. get_or r.places k nowhere) (take size r.places) size nowhere (length-take-le size r.places (omega arith)) (λ k l. get_or-take size r.places k nowhere l))
 
-module _ (p : Pool) (now : ℕ) (m : Meaning) (q : Question) (good : within p ≡ true) (sound : Sound m) (fit : Fit p m) (questions : first_no (choose_questions p now q) ≡ 0) (some : 0 < length (candidates p now q)) (es : List Entry) (all : map candidate_of es ≡ candidates p now q) (told : All (Told p now m q) es) (set : All (λ e. SetSubframe p (reported e)) es) where
+module _ (p : Pool) (now : ℕ) (m : Meaning) (q : Question) (good : within p ≡ true) (sound : Sound m) (fit : Fit p m) (questions : first_no (choose_questions p now q) ≡ 0) (some : 0 < length (candidates p now q)) (es : List Entry) (all : map candidate_of es ≡ candidates p now q) (told : AllByRecursion (Told p now m q) es) (set : AllByRecursion (λ e. SetSubframe p (reported e)) es) where
   none_enough : (n : ℕ) → n ≤ 44 → NoneBelow es n → (r : ℕ) → r < n → enough p now m q r ≡ false
   none_enough n low h r l = enough_told p now m q es all told r (omega arith) ∙ h r l
 
@@ -66,7 +66,7 @@ module _ (p : Pool) (now : ℕ) (m : Meaning) (q : Question) (good : within p �
       let kept = filter (free r.raise) es in
       let sub : Entry → Type 0 = λ e. SetSubframe p (reported e) in
       let first = take (fifth (length es)) order in
-      let right : All sub first = All-take sub (fifth (length es)) order (all_shuffled sub kept order made.shuffled (all_kept_by (free r.raise) sub es set)) in
+      let right : AllByRecursion sub first = All-take sub (fifth (length es)) order (all_shuffled sub kept order made.shuffled (all_kept_by (free r.raise) sub es set)) in
       record {
         questions = questions;
         fewest = record { leaves = leave; least = none_enough r.raise (omega arith) w.2 };

@@ -1,7 +1,7 @@
 -- The rows of all slots are the candidates, and what each says of its candidate. Assumes nothing.
 use Rattle.std.proofs.Common.{◌≡◌, ℕ, zero, suc, ◌+◌, ◌-◌, ◌<◌, ◌≤◌, Bool, true, false, cond, ◌&&◌, List, [], ◌∷◌, ◌++◌, map, length, get_or, filter, sym, refl, ap, ◌∙◌, subst, ⊎_elim, arith}
 use mathlib.Core.List.{map-map}
-use Rattle.std.specs.List.{range_with_len, flat_map, AllByRecursion as All}
+use Rattle.std.specs.List.{range_with_len, flat_map, AllByRecursion}
 use Rattle.std.proofs.lemmas.List.FromFn.{fill_by_all}
 use Rattle.std.proofs.ByRecursion.{All-append, All-get_or, All-map, All-weaker}
 use Rattle.std.proofs.lemmas.List.{map-append}
@@ -53,19 +53,19 @@ module _ (p : Pool) (now : ℕ) (q : Question) (slots : List Slot) (width : ℕ)
       ∙ sym (joined_is (λ s. across p q (index p s)) (subframes p now q))
 
 -- what holds of each counted number
-all_counted : (P : ℕ → Type 0) (a n : ℕ) → ((i : ℕ) → a ≤ i → i < a + n → P i) → All P (range_with_len a n)
+all_counted : (P : ℕ → Type 0) (a n : ℕ) → ((i : ℕ) → a ≤ i → i < a + n → P i) → AllByRecursion P (range_with_len a n)
 all_counted P a zero h = tt
 all_counted P a (suc n) h = (h a (omega arith) (omega arith), all_counted P (a + 1) n (λ i low high. h i (omega arith) (omega arith)))
 
-all_joined : {X Y : Type 0} (P : Y → Type 0) (g : X → List Y) (xs : List X) → All (λ x. All P (g x)) xs → All P (flat_map g xs)
+all_joined : {X Y : Type 0} (P : Y → Type 0) (g : X → List Y) (xs : List X) → AllByRecursion (λ x. AllByRecursion P (g x)) xs → AllByRecursion P (flat_map g xs)
 all_joined P g [] a = tt
 all_joined P g (x ∷ xs) a = All-append P (g x) (flat_map g xs) a.0 (all_joined P g xs a.1)
 
 -- what holds of each entry by its slot and its first sub-channel
-all_rows : (P : Entry → Type 0) (slots : List Slot) (width : ℕ) (needs : List (List ℕ)) (means : List MeanRow) → ((i x : ℕ) → i < length slots → x < width → P (entry_at (get_or slots i origin) (get_or needs i []) (get_or means i silent) x)) → All P (rows_of slots width needs means (length slots))
+all_rows : (P : Entry → Type 0) (slots : List Slot) (width : ℕ) (needs : List (List ℕ)) (means : List MeanRow) → ((i x : ℕ) → i < length slots → x < width → P (entry_at (get_or slots i origin) (get_or needs i []) (get_or means i silent) x)) → AllByRecursion P (rows_of slots width needs means (length slots))
 all_rows P slots width needs means h =
     all_joined P (row_of slots width needs means) (range_with_len 0 (length slots))
-    (all_counted (λ i. All P (row_of slots width needs means i)) 0 (length slots)
+    (all_counted (λ i. AllByRecursion P (row_of slots width needs means i)) 0 (length slots)
     (λ i _ high.
     let few : i < length slots = omega arith in
     All-map P (entry_at (get_or slots i origin) (get_or needs i []) (get_or means i silent)) (range_with_len 0 width)
@@ -73,28 +73,28 @@ all_rows P slots width needs means h =
     (λ x _ top. h i x few (omega arith)))))
 
 module _ (p : Pool) (now : ℕ) (m : Meaning) (q : Question) (slots : List Slot) (width : ℕ) (needs : List (List ℕ)) (means : List MeanRow) where
-  pub rows_told : width ≡ p.channels + 1 - q.length → q.length ≤ p.channels → 1 ≤ q.length → p.channels ≤ 20 → NeedsAre p m q slots needs → MeansAre p m q slots means → All (Told p now m q) (rows_of slots width needs means (length slots))
+  pub rows_told : width ≡ p.channels + 1 - q.length → q.length ≤ p.channels → 1 ≤ q.length → p.channels ≤ 20 → NeedsAre p m q slots needs → MeansAre p m q slots means → AllByRecursion (Told p now m q) (rows_of slots width needs means (length slots))
   rows_told wide short some few n a =
       all_rows (Told p now m q) slots width needs means
       (λ i x low top. record { survives_at = λ r h. n i x r low (omega arith) h; mean_is = a i x low (omega arith) (omega arith) })
 
 -- each subframe of the candidates is in the set
-kept_true : (f : ℕ → Bool) (xs : List ℕ) → All (λ s. f s ≡ true) (filter f xs)
+kept_true : (f : ℕ → Bool) (xs : List ℕ) → AllByRecursion (λ s. f s ≡ true) (filter f xs)
 kept_true f [] = tt
 kept_true f (x ∷ xs) =
     ⊎_elim
-    (λ (t : f x ≡ true). subst (λ b. All (λ s. f s ≡ true) (cond b (x ∷ filter f xs) (filter f xs))) (sym t) (t, kept_true f xs))
-    (λ (t : f x ≡ false). subst (λ b. All (λ s. f s ≡ true) (cond b (x ∷ filter f xs) (filter f xs))) (sym t) (kept_true f xs))
+    (λ (t : f x ≡ true). subst (λ b. AllByRecursion (λ s. f s ≡ true) (cond b (x ∷ filter f xs) (filter f xs))) (sym t) (t, kept_true f xs))
+    (λ (t : f x ≡ false). subst (λ b. AllByRecursion (λ s. f s ≡ true) (cond b (x ∷ filter f xs) (filter f xs))) (sym t) (kept_true f xs))
     (cases_Bool (f x))
 
-pub rows_set : (p : Pool) (now : ℕ) (q : Question) (slots : List Slot) (width : ℕ) (needs : List (List ℕ)) (means : List MeanRow) → slots ≡ map (slot_at p) (subframes p now q) → All (λ e. SetSubframe p (reported e)) (rows_of slots width needs means (length slots))
+pub rows_set : (p : Pool) (now : ℕ) (q : Question) (slots : List Slot) (width : ℕ) (needs : List (List ℕ)) (means : List MeanRow) → slots ≡ map (slot_at p) (subframes p now q) → AllByRecursion (λ e. SetSubframe p (reported e)) (rows_of slots width needs means (length slots))
 rows_set p now q slots width needs means are =
     let Right : Slot → Type 0 = λ s. (in_set p s.subframe ≡ true) × (index p s.subframe ≡ s.index) in
     let wanted : ℕ → Bool = λ s. in_set p s && in_pool p (index p s) in
     let every = kept_true wanted (range_with_len (now + q.from) (q.to + 1 - q.from)) in
-    let all : All Right (map (slot_at p) (subframes p now q)) =
+    let all : AllByRecursion Right (map (slot_at p) (subframes p now q)) =
     All-map Right (slot_at p) (subframes p now q)
     (All-weaker (λ s. wanted s ≡ true) (λ s. Right (slot_at p s)) (λ s t. ((and_parts (in_set p s) (in_pool p (index p s)) t).0, refl)) (subframes p now q) every) in
-    let all' : All Right slots = subst (All Right) (sym are) all in
+    let all' : AllByRecursion Right slots = subst (AllByRecursion Right) (sym are) all in
     all_rows (λ e. SetSubframe p (reported e)) slots width needs means
     (λ i x low top. let w = All-get_or Right slots i origin low all' in record { member = w.0; index_is = w.1 })

@@ -2,7 +2,7 @@
 use Rattle.std.proofs.Common.{◌≡◌, ℕ, ◌*◌, ◌≤◌, Bool, true, false, not, ◌&&◌, ◌||◌, leb, List, [], ◌∷◌, map, length, take, count_by, filter, sym, refl, ap, ◌∙◌, inl, inr, ⊎_elim}
 use mathlib.Core.List.{map-map}
 use Rattle.std.specs.List.Sorted.{IsPermutation}
-use Rattle.std.specs.List.{AllByRecursion as All}
+use Rattle.std.specs.List.{AllByRecursion}
 use Rattle.std.proofs.ByRecursion.{all_kept_by, all_shuffled}
 use Rattle.std.proofs.lemmas.List.{length-map, take-map}
 use Rattle.std.proofs.lemmas.List.Sums.{length-filter}
@@ -26,11 +26,11 @@ use Rattle.selecting.specs.declared.Place.{Place}
 use Rattle.selecting.specs.declared.Report.{Report}
 
 -- a list that rises by one test rises by another on what it stands for, where the tests agree on its elements
-sorted_map : {X Y : Type 0} (f : X → Y) (lt : X → X → Bool) (lt' : Y → Y → Bool) (P : X → Type 0) → ((a b : X) → P a → P b → lt a b ≡ lt' (f a) (f b)) → (xs : List X) → All P xs → Sorted lt xs → Sorted lt' (map f xs)
+sorted_map : {X Y : Type 0} (f : X → Y) (lt : X → X → Bool) (lt' : Y → Y → Bool) (P : X → Type 0) → ((a b : X) → P a → P b → lt a b ≡ lt' (f a) (f b)) → (xs : List X) → AllByRecursion P xs → Sorted lt xs → Sorted lt' (map f xs)
 sorted_map {X} {Y} f lt lt' P same [] good s = tt
 sorted_map {X} {Y} f lt lt' P same (x ∷ xs) good s = (here xs good.1 s.0, sorted_map f lt lt' P same xs good.1 s.1)
   where
-    here : (ys : List X) → All P ys → ((b : X) → In b ys → lt b x ≡ false) → (b : Y) → In b (map f ys) → lt' b (f x) ≡ false
+    here : (ys : List X) → AllByRecursion P ys → ((b : X) → In b ys → lt b x ≡ false) → (b : Y) → In b (map f ys) → lt' b (f x) ≡ false
     here [] g h b w = absurd w
     here (y ∷ ys) g h b (inl e) = ap (λ z. lt' z (f x)) e ∙ sym (same y x g.0 good.0) ∙ h y (inl refl)
     here (y ∷ ys) g h b (inr w) = here ys g.1 (λ b v. h b (inr v)) b w
@@ -41,7 +41,7 @@ module _ (p : Pool) (now : ℕ) (m : Meaning) (q : Question) where
     pub survives_at : (r : ℕ) → r ≤ 43 → leb e.need r ≡ survives p m q r (candidate_of e)
     pub mean_is : fraction_of e.mean ≡ mean p m q (candidate_of e)
 
-  kept_told : (r : ℕ) → r ≤ 43 → (es : List Entry) → All Told es → map candidate_of (filter (free r) es) ≡ filter (survives p m q r) (map candidate_of es)
+  kept_told : (r : ℕ) → r ≤ 43 → (es : List Entry) → AllByRecursion Told es → map candidate_of (filter (free r) es) ≡ filter (survives p m q r) (map candidate_of es)
   kept_told r low [] told = refl
   kept_told r low (e ∷ es) told =
       let IH = kept_told r low es told.1 in
@@ -51,7 +51,7 @@ module _ (p : Pool) (now : ℕ) (m : Meaning) (q : Question) where
       (λ (n : leb e.need r ≡ false). let n' = sym t ∙ n in rw (n, n') IH)
       (cases_Bool (leb e.need r))
 
-  module _ (es : List Entry) (all : map candidate_of es ≡ candidates p now q) (told : All Told es) where
+  module _ (es : List Entry) (all : map candidate_of es ≡ candidates p now q) (told : AllByRecursion Told es) where
     pub survivors_told : (r : ℕ) → r ≤ 43 → map candidate_of (filter (free r) es) ≡ survivors p now m q r
     unfolding survivors
     survivors_told r low = kept_told r low es told ∙ ap (filter (survives p m q r)) all
@@ -74,7 +74,7 @@ module _ (p : Pool) (now : ℕ) (m : Meaning) (q : Question) where
       in_order : (order : List Entry) → IsPermutation (filter (free raise) es) order → rising before order ≡ true → map candidate_of order ≡ ordered (ahead p m q) (survivors p now m q raise)
       in_order order s up =
           let kept = filter (free raise) es in
-          let good : All Told order = all_shuffled Told kept order s (all_kept_by (free raise) Told es told) in
+          let good : AllByRecursion Told order = all_shuffled Told kept order s (all_kept_by (free raise) Told es told) in
           ordered_is (ahead p m q) (ahead_total p m q) (survivors p now m q raise) (map candidate_of order)
           (sorted_ordered (ahead p m q) (ahead_asym p m q) (ahead_ties p m q) (survivors p now m q raise))
           (sorted_map candidate_of before (ahead p m q) Told before_told order good (rising_sorted before order up))
@@ -97,6 +97,6 @@ module _ (p : Pool) (now : ℕ) (m : Meaning) (q : Question) where
           (sorted_map place_of sooner earlier (λ _. Unit {0}) (λ a b _ _. refl) (shown r) (all_any (shown r)) (rising_sorted sooner (shown r) r.ordered))
           (λ a. tally_shuffled place_of (map reported first) (shown r) w.first.places a ∙ ap (tally a) same)
         where
-          all_any : (xs : List Place) → All (λ _. Unit {0}) xs
+          all_any : (xs : List Place) → AllByRecursion (λ _. Unit {0}) xs
           all_any [] = tt
           all_any (x ∷ xs) = (tt, all_any xs)

@@ -1,6 +1,6 @@
 -- What a selection answers. Assumes nothing.
 use Rattle.std.specs.Prelude.{◌≡◌, ℕ, ◌≤◌, true, false, ◌⊎◌, List, Ok, Err, Result, ◌≢◌}
-use Rattle.std.specs.List.{AllByRecursion as All}
+use Rattle.std.specs.List.{AllByRecursion}
 use Rattle.answer.specs.Numbers.{number}
 use Rattle.answer.specs.declared.Refusal.{Refusal}
 use Rattle.rules.specs.Calendar.{Pool, in_set, index}
@@ -33,7 +33,7 @@ pub record Answers (p : Pool) (now : ℕ) (m : Meaning) (q : Question) (r : Repo
   pub fewest : Fewest p now m q r.raise
   pub places : places_of r ≡ report p now m q r.raise
   pub law : Reported p now m q r.raise (places_of r)
-  pub subframes : All (SetSubframe p) (shown r)
+  pub subframes : AllByRecursion (SetSubframe p) (shown r)
   pub marked : left r ≡ shown r
   pub question : question_of r.question ≡ q
   pub apart : r.apart ≡ interval p q
