@@ -1,6 +1,8 @@
 -- What the code's pool and settings mean. Assumes nothing.
+use Rattle.std.specs.Prelude.{◌≡◌, ℕ, ◌<◌, true, List}
 use Rattle.rules.specs.Calendar.{Pool as Meaning}
-use Rattle.rules.specs.Configure.{Request}
+use Rattle.rules.specs.Closed.{word_bit}
+use Rattle.rules.specs.Configure.{Request, byte_bit, bitmap_ok}
 use Rattle.pool.specs.Meant.{meant}
 use Rattle.pool.specs.declared.Pool.{Pool}
 use Rattle.pool.specs.declared.Settings.{Settings}
@@ -22,3 +24,8 @@ asked s =
       mask = s.intervals;
       levels = s.levels;
     }
+
+-- the words have the bits of the bytes, which are a bitmap of that length
+pub record SameBits (size : ℕ) (bytes words : List ℕ) : Type 0 where
+  pub ok : bitmap_ok size bytes ≡ true
+  pub bits : (i : ℕ) → i < 128 → word_bit words i ≡ byte_bit bytes i

@@ -22,44 +22,30 @@ const UPLINK: [u16; 8] = [
     0b11_1111_1111,
 ];
 
-// The uplink mask of a code.
-pub(crate) fn mask_of(code: u8) -> u16
-    requires { code ≤ 7 }
+// The uplink mask of a code; a code above 7 has no uplink position.
+fn mask_of(code: u8) -> u16
     ensures { result ≡ uplink_mask code }
 {
-    UPLINK[code as usize]
+    UPLINK.get(usize::from(code)).copied().unwrap_or(0)
 }
 
-// Is a place in ten an uplink position of the code?
-pub(crate) fn on_uplink(code: u8, place: u32) -> bool
-    requires { (code ≤ 7) × (place < 10) }
-    ensures { result ≡ among place (uplink_positions code) }
+// Is place d of the 10,240 on an uplink position of the code?
+pub(crate) fn on_uplink(code: u8, d: u16) -> bool
+    ensures { result ≡ among (d % 10) (uplink_positions code) }
 {
-    (mask_of(code) >> place) % 2 == 1
+    (mask_of(code) >> (d % 10)) % 2 == 1
 }
 
 // How many subframes before d are on one of the offsets.
-fn offsets_before(offsets: &[u8], d: u32) -> u32
-    requires { (d ≤ 10240) × (length offsets.now ≤ 3) }
+fn offsets_before(offsets: &[u8], d: u16) -> u32
+    requires { length offsets.now ≤ 3 }
     ensures value { result ≡ sync_before offsets.now d }
 {
-    let mut sum = 0;
-    for offset in offsets {
-        sum += (d + 159).saturating_sub(u32::from(*offset)) / 160;
-    }
-    sum
-}
-
-// Is a place in 160 one of the offsets?
-pub(crate) fn on_offset(offsets: &[u8], place: u32) -> bool
-    ensures { result ≡ among place offsets.now }
-{
-    for offset in offsets {
-        if u32::from(*offset) == place {
-            return true;
-        }
-    }
-    false
+    let d = u32::from(d);
+    offsets
+        .iter()
+        .map(|offset| (d + 159).saturating_sub(u32::from(*offset)) / 160)
+        .sum()
 }
 
 impl Pool {
@@ -73,21 +59,26 @@ impl Pool {
     }
 
     // How many subframes before d are on an uplink position.
-    fn uplink_before(&self, d: u32) -> u32
-        requires { d ≤ 10240 }
+    fn uplink_before(&self, d: u16) -> u32
         ensures value { result ≡ uplink_before (meaning self.now).uplink d }
     {
-        let mask = mask_of(self.uplink);
-        let below = mask & ((1 << (d % 10)) - 1);
-        self.positions() * (d / 10) + below.count_ones()
+        let below = mask_of(self.uplink) & ((1 << (d % 10)) - 1);
+        self.positions() * u32::from(d / 10) + below.count_ones()
+    }
+
+    // The sync offsets.
+    fn offsets(&self) -> &[u8]
+        ensures value { result.now ≡ (meaning self.now).offsets }
+        ensures few { length result.now ≤ 3 }
+    {
+        &self.offsets[..usize::from(self.used)]
     }
 
     // How many subframes before d are on a sync offset.
-    fn sync_before(&self, d: u32) -> u32
-        requires { d ≤ 10240 }
+    fn sync_before(&self, d: u16) -> u32
         ensures value { result ≡ sync_before (meaning self.now).offsets d }
     {
-        offsets_before(&self.offsets[0..self.used as usize], d)
+        offsets_before(self.offsets(), d)
     }
 
     // The number of sub-channels.
@@ -139,24 +130,23 @@ impl Pool {
     }
 
     // Is place d of the 10,240 on a sync offset?
-    fn on_sync(&self, d: u32) -> bool
+    fn on_sync(&self, d: u16) -> bool
         ensures value { result ≡ among (d % 160) (meaning self.now).offsets }
     {
-        on_offset(&self.offsets[0..self.used as usize], d % 160)
+        self.offsets().contains(&((d % 160) as u8))
     }
 
     // Does the subframe at place d of its 10,240 remain?
-    fn remains(&self, d: u32) -> bool
+    fn remains(&self, d: u16) -> bool
         ensures { result ≡ remains (meaning self.now) d }
     {
-        on_uplink(self.uplink, d % 10) && !self.on_sync(d)
+        on_uplink(self.uplink, d) && !self.on_sync(d)
     }
 
     // How many subframes before place d remain.
-    fn rank(&self, d: u32) -> u32
-        requires { d ≤ 10240 }
+    fn rank(&self, d: u16) -> u32
         ensures value { result ≡ rank (meaning self.now) d }
-        ensures few { result ≤ 10240 }
+        ensures few { result ≤ d }
     {
         self.uplink_before(d) - self.sync_before(d)
     }
@@ -171,7 +161,7 @@ impl Pool {
     }
 
     // How many set subframes lie before place d.
-    fn set_before(&self, d: u32) -> u32
+    fn set_before(&self, d: u16) -> u32
         requires { d ≤ 10240 }
         ensures value { result ≡ count_below (kept (meaning self.now)) d }
         ensures few { result ≤ d }
@@ -184,7 +174,7 @@ impl Pool {
     pub fn in_set(&self, subframe: u64) -> bool
         ensures { result ≡ in_set (meaning self.now) subframe }
     {
-        let d = (subframe % DAY) as u32;
+        let d = (subframe % DAY) as u16;
         if !self.remains(d) {
             return false;
         }
@@ -198,7 +188,7 @@ impl Pool {
         ensures first { Next (meaning self.now) subframe result }
         ensures bound { result ≤ subframe }
     {
-        let d = (subframe % DAY) as u32;
+        let d = (subframe % DAY) as u16;
         u64::from(self.cycle()) * (subframe / DAY) + u64::from(self.set_before(d))
     }
 
@@ -206,10 +196,6 @@ impl Pool {
     pub fn index(&self, subframe: u64) -> Option<u64>
         ensures { result ≡ index_of (meaning self.now) subframe }
     {
-        if self.in_set(subframe) {
-            Some(self.next_index(subframe))
-        } else {
-            None
-        }
+        self.in_set(subframe).then(|| self.next_index(subframe))
     }
 }

@@ -1,35 +1,19 @@
 // The bitmap, the intervals and the threshold levels of a pool.
 ghost use Rattle.std.specs.Prelude.{◌≡◌, ℕ, ◌<◌, ◌≤◌, Bool, true, false, length, slice_index_or};
-ghost use Rattle.rules.specs.Calendar.{in_pool, allowed, intervals as allowed_count, distance, milliseconds as milliseconds_of, level, finite, threshold as threshold_of};
+ghost use Rattle.rules.specs.Calendar.{in_pool, allowed, intervals as allowed_count, distance, milliseconds as milliseconds_of, level, finite};
 ghost use Rattle.rules.specs.Closed.{word_bit};
 ghost use Rattle.pool.specs.Pools.{meaning};
 
 use crate::Pool;
 
-// The thresholds of levels 1 to 65, in tenths of a dBm.
-const THRESHOLDS: [i16; 65] = [
-    -1280, -1260, -1240, -1220, -1200, -1180, -1160, -1140, -1120, -1100, -1080, -1060, -1040,
-    -1020, -1000, -980, -960, -940, -920, -900, -880, -860, -840, -820, -800, -780, -760, -740,
-    -720, -700, -680, -660, -640, -620, -600, -580, -560, -540, -520, -500, -480, -460, -440, -420,
-    -400, -380, -360, -340, -320, -300, -280, -260, -240, -220, -200, -180, -160, -140, -120, -100,
-    -80, -60, -40, -20, 0,
-];
-
-fn threshold(level: u8) -> i16
-    requires { (1 ≤ level) × (level ≤ 65) }
-    ensures { result ≡ threshold_of level }
-{
-    THRESHOLDS[level as usize - 1]
-}
-
 // The threshold of a level from 1 to 65. The levels 0 and 66 have none: they are below and above every RSRP.
 pub fn finite_level(level: u8) -> Option<i16>
     ensures { result ≡ finite level }
 {
-    if level < 1 || level > 65 {
-        return None;
+    match level {
+        1..=65 => Some(20 * (i16::from(level) - 1) - 1280),
+        _ => None,
     }
-    Some(threshold(level))
 }
 
 // Bit i of a bitmap in words.
@@ -37,7 +21,7 @@ pub(crate) fn bit_of(words: &[u32; 4], i: u8) -> bool
     requires { i < 128 }
     ensures { result ≡ word_bit words.now i }
 {
-    (words[i as usize / 32] >> (31 - i % 32)) % 2 == 1
+    (words[usize::from(i / 32)] >> (31 - i % 32)) % 2 == 1
 }
 
 // The milliseconds of an interval code.
@@ -58,10 +42,7 @@ impl Pool {
     pub fn bit(&self, i: u8) -> bool
         ensures { result ≡ slice_index_or (meaning self.now).bits i false }
     {
-        if i >= self.size {
-            return false;
-        }
-        bit_of(&self.bitmap, i)
+        i < self.size && bit_of(&self.bitmap, i)
     }
 
     // Is the index in the pool?
@@ -75,10 +56,7 @@ impl Pool {
     pub fn allows(&self, code: u8) -> bool
         ensures { result ≡ allowed (meaning self.now) code }
     {
-        if code < 1 || code > 12 {
-            return false;
-        }
-        (self.intervals >> (code - 1)) % 2 == 1
+        matches!(code, 1..=12) && (self.intervals >> (code - 1)) % 2 == 1
     }
 
     // How many interval codes are allowed.
@@ -100,9 +78,6 @@ impl Pool {
     pub fn level(&self, own: u8, other: u8) -> Option<u8>
         ensures { result ≡ level (meaning self.now) own other }
     {
-        if own > 7 || other > 7 {
-            return None;
-        }
-        Some(self.levels[8 * own as usize + other as usize])
+        (own <= 7 && other <= 7).then(|| self.levels[usize::from(8 * own + other)])
     }
 }

@@ -1,15 +1,12 @@
-use Rattle.std.proofs.Common.{ltb, sym, arith, below_more}
+use Rattle.std.proofs.Common.{ltb, ◌∙◌, rules}
 use lib.Count.{ones}
-use Rattle.std.proofs.lemmas.Bool.{lt-ltb, le-ltb}
-use Rattle.rules.proofs.Lists.{any_from, any_none}
+use Rattle.std.proofs.lemmas.Iterator.{YieldsList-from_slice}
+use Rattle.std.proofs.lemmas.Iterator.Search.{any_from_yields_List}
+use borrow.Author.Tests.{tests}
+use Rattle.rules.proofs.Chains.{any_is}
 use Rattle.pool.proofs.configure.some_bit.Goals as goal
 
-pub returns-then-word-gt0 : goal.returns-then-word-gt0
-returns-then-word-gt0 c =
-    sym (any_from (λ w. ltb 0 (ones w)) c.args.words.now 0 c.loop-word.word-index (omega arith) (lt-ltb _ _ c.if-word-gt0.true))
-
-pub loop-word-preserved : goal.loop-word-preserved
-loop-word-preserved c = below_more _ _ c.loop-word.invariant (le-ltb _ _ c.if-word-gt0.false)
-
 pub returns : goal.returns
-returns c = sym (any_none (λ w. ltb 0 (ones w)) c.args.words.now 0 (λ k h. c.loop-word.invariant k (omega arith)))
+returns c =
+    any_from_yields_List (λ w. ltb 0 (ones w)) _ _ c.any.result c.any.ensures.ran (YieldsList-from_slice c.args.words.now cc) (λ x b q k. search (rules, tests))
+    ∙ any_is _ c.args.words.now
