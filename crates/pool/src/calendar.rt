@@ -1,11 +1,11 @@
 // How the pool counts subframes, in closed form.
-ghost use Rattle.std.specs.Prelude.{◌≡◌, ℕ, ◌+◌, ◌-◌, ◌*◌, ◌/◌, ◌%◌, ◌^◌, ◌<◌, ◌≤◌, Bool, true, false, length};
+ghost use Rattle.std.specs.Prelude.{◌≡◌, ℕ, ◌+◌, ◌-◌, ◌*◌, ◌/◌, ◌%◌, ◌^◌, ◌<◌, ◌≤◌, Bool, true, false, length, take};
 ghost use Rattle.rules.specs.Counting.{among, count_below};
 ghost use Rattle.rules.specs.Calendar.{positions as uplink_positions, step, window, remains, rank, remaining, left_over, kept, cycle, in_set, index, index_of, Next};
 ghost use Rattle.rules.specs.Closed.{uplink_mask, uplink_before, sync_before, reserved_before};
 ghost use Rattle.pool.specs.Pools.{meaning};
 
-use crate::Pool;
+use crate::{Offsets, Pool};
 
 // Subframes come round after this many.
 const DAY: u64 = 10240;
@@ -36,16 +36,32 @@ pub(crate) fn on_uplink(code: u8, d: u16) -> bool
     (mask_of(code) >> (d % 10)) % 2 == 1
 }
 
-// How many subframes before d are on one of the offsets.
-fn offsets_before(offsets: &[u8], d: u16) -> u32
-    requires { length offsets.now ≤ 3 }
-    ensures value { result ≡ sync_before offsets.now d }
-{
-    let d = u32::from(d);
-    offsets
-        .iter()
-        .map(|offset| (d + 159).saturating_sub(u32::from(*offset)) / 160)
-        .sum()
+impl Offsets {
+    // Those that are used.
+    fn all(&self) -> &[u8]
+        ensures value { result.now ≡ take self.now.used self.now.places }
+        ensures few { length result.now ≤ 3 }
+    {
+        &self.places[..usize::from(self.used)]
+    }
+
+    // Is place d of the 10,240 on one of them?
+    fn has(&self, d: u16) -> bool
+        ensures { result ≡ among (d % 160) (take self.now.used self.now.places) }
+    {
+        self.all().contains(&((d % 160) as u8))
+    }
+
+    // How many subframes before d are on one of them.
+    fn before(&self, d: u16) -> u32
+        ensures value { result ≡ sync_before (take self.now.used self.now.places) d }
+    {
+        let d = u32::from(d);
+        self.all()
+            .iter()
+            .map(|offset| (d + 159).saturating_sub(u32::from(*offset)) / 160)
+            .sum()
+    }
 }
 
 impl Pool {
@@ -64,21 +80,6 @@ impl Pool {
     {
         let below = mask_of(self.uplink) & ((1 << (d % 10)) - 1);
         self.positions() * u32::from(d / 10) + below.count_ones()
-    }
-
-    // The sync offsets.
-    fn offsets(&self) -> &[u8]
-        ensures value { result.now ≡ (meaning self.now).offsets }
-        ensures few { length result.now ≤ 3 }
-    {
-        &self.offsets[..usize::from(self.used)]
-    }
-
-    // How many subframes before d are on a sync offset.
-    fn sync_before(&self, d: u16) -> u32
-        ensures value { result ≡ sync_before (meaning self.now).offsets d }
-    {
-        offsets_before(self.offsets(), d)
     }
 
     // The number of sub-channels.
@@ -109,7 +110,7 @@ impl Pool {
         ensures some { 832 ≤ result }
         ensures few { result ≤ 10240 }
     {
-        1024 * self.positions() - 64 * u32::from(self.used)
+        1024 * self.positions() - 64 * u32::from(self.offsets.used)
     }
 
     // V, how many of them are reserved.
@@ -117,7 +118,7 @@ impl Pool {
         ensures value { result ≡ left_over (meaning self.now) }
         ensures few { result < 100 }
     {
-        self.remaining() % u32::from(self.size)
+        self.remaining() % u32::from(self.bitmap.size)
     }
 
     // T, how many subframes of 10,240 are in the set.
@@ -129,18 +130,11 @@ impl Pool {
         self.remaining() - self.left_over()
     }
 
-    // Is place d of the 10,240 on a sync offset?
-    fn on_sync(&self, d: u16) -> bool
-        ensures value { result ≡ among (d % 160) (meaning self.now).offsets }
-    {
-        self.offsets().contains(&((d % 160) as u8))
-    }
-
     // Does the subframe at place d of its 10,240 remain?
     fn remains(&self, d: u16) -> bool
         ensures { result ≡ remains (meaning self.now) d }
     {
-        on_uplink(self.uplink, d) && !self.on_sync(d)
+        on_uplink(self.uplink, d) && !self.offsets.has(d)
     }
 
     // How many subframes before place d remain.
@@ -148,7 +142,7 @@ impl Pool {
         ensures value { result ≡ rank (meaning self.now) d }
         ensures few { result ≤ d }
     {
-        self.uplink_before(d) - self.sync_before(d)
+        self.uplink_before(d) - self.offsets.before(d)
     }
 
     // How many reserved ranks are below k.

@@ -1,14 +1,13 @@
 // Making a pool: the questions of configure, and the pool that stands before it.
-ghost use Rattle.std.specs.Prelude.{◌≡◌, ℕ, ◌+◌, ◌-◌, ◌*◌, ◌/◌, ◌%◌, ◌^◌, ◌<◌, ◌≤◌, Bool, true, false, ◌&&◌, List, [], ◌∷◌, length, Decides, ◌≢◌, count_ones, nat_eq, nat_lt, slice_index, MatchOption, IfOk};
+ghost use Rattle.std.specs.Prelude.{◌≡◌, ℕ, ◌+◌, ◌-◌, ◌*◌, ◌/◌, ◌%◌, ◌^◌, ◌<◌, ◌≤◌, Bool, true, false, ◌&&◌, List, [], ◌∷◌, length, ◌≢◌, nat_eq, slice_index, MatchOption, IfOk};
 ghost use Rattle.answer.specs.Numbers.{answered};
-ghost use Rattle.rules.specs.Counting.{any, every, among, distinct};
+ghost use Rattle.rules.specs.Counting.{every, among, distinct};
 ghost use Rattle.rules.specs.Closed.{word_bit};
 ghost use Rattle.rules.specs.Configure.{byte_bit, sizes, offset_ok, offsets_question, bitmap_ok, levels_ok, configured, pool_of, built_in};
 ghost use Rattle.pool.specs.Pools.{meaning, asked, SameBits};
 
 use crate::calendar::on_uplink;
-use crate::levels::bit_of;
-use crate::{Pool, Settings};
+use crate::{Bitmap, Offsets, Pool, Settings};
 use answer::Refusal;
 
 // Is each level at most 66?
@@ -76,7 +75,8 @@ fn word(a: u8, b: u8, c: u8, d: u8) -> u32
 
 // The bitmap's bytes as words.
 fn words(b: &[u8; 13]) -> [u32; 4]
-    ensures { (i : ℕ) → i < 128 → word_bit result i ≡ byte_bit b.now i }
+    ensures same { (i : ℕ) → i < 128 → word_bit result i ≡ byte_bit b.now i }
+    ensures fits { (k : ℕ) → slice_index result k < 2 ^ 32 }
 {
     [
         word(b[0], b[1], b[2], b[3]),
@@ -86,33 +86,19 @@ fn words(b: &[u8; 13]) -> [u32; 4]
     ]
 }
 
-// Has some word a bit that is one?
-fn some_bit(words: &[u32; 4]) -> bool
-    ensures { result ≡ any (λ w. nat_lt 0 (count_ones w)) words.now }
-{
-    words.iter().any(|word| word.count_ones() > 0)
-}
-
-// Are the bits from the bitmap's length on zero?
-fn rest_zero(size: u8, words: &[u32; 4]) -> bool
-    requires { size ≤ 104 }
-    ensures { Decides result ((i : ℕ) → size ≤ i → i < 104 → word_bit words.now i ≡ false) }
-{
-    (size..104).all(|i| !bit_of(words, i))
-}
-
-// The bitmap in words, if its length is allowed, some bit is one, and no bit past the length.
-fn bitmap(size: u8, bytes: &[u8; 13]) -> Option<[u32; 4]>
+// The bitmap, if its length is allowed, some bit is one, and no bit past the length.
+fn bitmap(size: u8, bytes: &[u8; 13]) -> Option<Bitmap>
     ensures { MatchOption result (bitmap_ok size bytes.now ≡ false) (SameBits size bytes.now) }
 {
     let words = words(bytes);
-    (size_ok(size) && rest_zero(size, &words) && some_bit(&words)).then_some(words)
+    let bitmap = Bitmap { size, words };
+    (size_ok(size) && bitmap.rest_zero() && bitmap.some_bit()).then_some(bitmap)
 }
 
-// The questions of configure in their order, and the bitmap in words where each is answered yes.
-fn check(s: &Settings) -> Result<[u32; 4], Refusal>
+// The questions of configure in their order, and the bitmap where each is answered yes.
+fn check(s: &Settings) -> Result<Bitmap, Refusal>
     ensures answer { answered result ≡ configured (asked s.now) }
-    ensures words { IfOk result (SameBits s.now.size s.now.bitmap) }
+    ensures bits { IfOk result (SameBits s.now.size s.now.bitmap) }
 {
     if !matches!(s.channels, 1..=20) {
         return Err(Refusal::Channels);
@@ -123,14 +109,14 @@ fn check(s: &Settings) -> Result<[u32; 4], Refusal>
     if !offsets_ok(s.uplink, s.used, &s.offsets) {
         return Err(Refusal::Offsets);
     }
-    let words = bitmap(s.size, &s.bitmap).ok_or(Refusal::Bitmap)?;
+    let bitmap = bitmap(s.size, &s.bitmap).ok_or(Refusal::Bitmap)?;
     if !matches!(s.intervals, 1..=4095) {
         return Err(Refusal::Intervals);
     }
     if !levels_ok(&s.levels) {
         return Err(Refusal::Levels);
     }
-    Ok(words)
+    Ok(bitmap)
 }
 
 impl Pool {
@@ -141,10 +127,14 @@ impl Pool {
         Pool {
             channels: 1,
             uplink: 7,
-            used: 0,
-            offsets: [0, 0, 0],
-            size: 10,
-            bitmap: [0xffc0_0000, 0, 0, 0],
+            offsets: Offsets {
+                used: 0,
+                places: [0, 0, 0],
+            },
+            bitmap: Bitmap {
+                size: 10,
+                words: [0xffc0_0000, 0, 0, 0],
+            },
             intervals: 0xfff,
             levels: [66; 64],
         }
@@ -160,9 +150,10 @@ impl Pool {
         *self = Pool {
             channels: s.channels,
             uplink: s.uplink,
-            used: s.used,
-            offsets: s.offsets,
-            size: s.size,
+            offsets: Offsets {
+                used: s.used,
+                places: s.offsets,
+            },
             bitmap,
             intervals: s.intervals,
             levels: s.levels,

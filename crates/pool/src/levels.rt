@@ -1,10 +1,11 @@
 // The bitmap, the intervals and the threshold levels of a pool.
-ghost use Rattle.std.specs.Prelude.{◌≡◌, ℕ, ◌<◌, ◌≤◌, Bool, true, false, length, slice_index_or};
+ghost use Rattle.std.specs.Prelude.{◌≡◌, ℕ, ◌<◌, ◌≤◌, Bool, true, false, length, slice_index_or, Decides, count_ones, nat_lt};
+ghost use Rattle.rules.specs.Counting.{any};
 ghost use Rattle.rules.specs.Calendar.{in_pool, allowed, intervals as allowed_count, distance, milliseconds as milliseconds_of, level, finite};
 ghost use Rattle.rules.specs.Closed.{word_bit};
 ghost use Rattle.pool.specs.Pools.{meaning};
 
-use crate::Pool;
+use crate::{Bitmap, Pool};
 
 // The threshold of a level from 1 to 65. The levels 0 and 66 have none: they are below and above every RSRP.
 pub fn finite_level(level: u8) -> Option<i16>
@@ -16,12 +17,29 @@ pub fn finite_level(level: u8) -> Option<i16>
     }
 }
 
-// Bit i of a bitmap in words.
-pub(crate) fn bit_of(words: &[u32; 4], i: u8) -> bool
-    requires { i < 128 }
-    ensures { result ≡ word_bit words.now i }
-{
-    (words[usize::from(i / 32)] >> (31 - i % 32)) % 2 == 1
+impl Bitmap {
+    // Bit i of the words.
+    fn word_bit(&self, i: u8) -> bool
+        requires { i < 128 }
+        ensures { result ≡ word_bit self.now.words i }
+    {
+        (self.words[usize::from(i / 32)] >> (31 - i % 32)) % 2 == 1
+    }
+
+    // Has some word a bit that is one?
+    pub(crate) fn some_bit(&self) -> bool
+        ensures { result ≡ any (λ w. nat_lt 0 (count_ones w)) self.now.words }
+    {
+        self.words.iter().any(|word| word.count_ones() > 0)
+    }
+
+    // Are the bits from the length on zero?
+    pub(crate) fn rest_zero(&self) -> bool
+        requires { self.now.size ≤ 104 }
+        ensures { Decides result ((i : ℕ) → self.now.size ≤ i → i < 104 → word_bit self.now.words i ≡ false) }
+    {
+        (self.size..104).all(|i| !self.word_bit(i))
+    }
 }
 
 // The milliseconds of an interval code.
@@ -42,14 +60,14 @@ impl Pool {
     pub fn bit(&self, i: u8) -> bool
         ensures { result ≡ slice_index_or (meaning self.now).bits i false }
     {
-        i < self.size && bit_of(&self.bitmap, i)
+        i < self.bitmap.size && self.bitmap.word_bit(i)
     }
 
     // Is the index in the pool?
     pub fn in_pool(&self, index: u64) -> bool
         ensures { result ≡ in_pool (meaning self.now) index }
     {
-        self.bit((index % u64::from(self.size)) as u8)
+        self.bit((index % u64::from(self.bitmap.size)) as u8)
     }
 
     // Is the interval code allowed?

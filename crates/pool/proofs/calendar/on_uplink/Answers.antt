@@ -1,4 +1,4 @@
-use Rattle.std.proofs.Common.{◌≡◌, ℕ, ◌/◌, ◌%◌, ◌^◌, eqb, ap, ◌∙◌, arith}
+use Rattle.std.proofs.Common.{◌/◌, ◌%◌, ◌^◌, eqb, ap, ◌∙◌, arith}
 use Rattle.rules.proofs.Masks.{mask_bit}
 use Rattle.pool.proofs.calendar.on_uplink.Goals as goal
 
