@@ -15,6 +15,3 @@ size_is p = length-map-range_with_len (word_bit p.bitmap.words) 0 p.bitmap.size
 
 pub small : (p : Pool) → p.bitmap.size ≤ 100
 small p = omega (arith, size_is p, (keeps p).most)
-
-pub some_bits : (p : Pool) → 10 ≤ p.bitmap.size
-some_bits p = omega (arith, size_is p, (keeps p).least)

@@ -15,10 +15,11 @@ pub mod levels;
 pub struct Settings {
     pub channels: u8,
     pub uplink: u8,
-    // how many of the three offsets are used; all three are here, since configure asks whether the others are zero
+    // how many of the three offsets are used; the others are here too, since configure asks whether they are zero
     pub used: u8,
     pub offsets: [u8; 3],
     // the bitmap's length, and its bytes: bit 0 is the highest bit of byte 0
+    // all thirteen bytes are here, since configure asks whether the bits past the length are zero
     pub size: u8,
     pub bitmap: [u8; 13],
     // bit c - 1 allows interval code c
@@ -27,7 +28,7 @@ pub struct Settings {
 }
 
 // The sync offsets of a pool: three places, and how many of them are used.
-// A fixed array with a length beside it, since a pool is `Copy` and lies in no heap; so is the bitmap.
+// The array has a length beside it, as has the bitmap's, since a pool is `Copy` and the kit's `ArrayVec` is not.
 #[derive(Clone, Copy)]
 struct Offsets {
     used: u8,
