@@ -7,12 +7,21 @@ ghost use Rattle.pool.specs.Pools.{meaning};
 
 use crate::{Bitmap, Pool};
 
+// The thresholds of levels 1 to 65, in tenths of a dBm. They are read from a table, as the rules have it.
+const THRESHOLDS: [i16; 65] = [
+    -1280, -1260, -1240, -1220, -1200, -1180, -1160, -1140, -1120, -1100, -1080, -1060, -1040,
+    -1020, -1000, -980, -960, -940, -920, -900, -880, -860, -840, -820, -800, -780, -760, -740,
+    -720, -700, -680, -660, -640, -620, -600, -580, -560, -540, -520, -500, -480, -460, -440, -420,
+    -400, -380, -360, -340, -320, -300, -280, -260, -240, -220, -200, -180, -160, -140, -120, -100,
+    -80, -60, -40, -20, 0,
+];
+
 // The threshold of a level from 1 to 65. The levels 0 and 66 have none: they are below and above every RSRP.
 pub fn finite_level(level: u8) -> Option<i16>
     ensures { result ≡ finite level }
 {
     match level {
-        1..=65 => Some(20 * (i16::from(level) - 1) - 1280),
+        1..=65 => Some(THRESHOLDS[usize::from(level) - 1]),
         _ => None,
     }
 }
