@@ -6,11 +6,11 @@ use Rattle.answer.specs.declared.Refusal.{Refusal}
 use Rattle.answer.specs.declared.Refusal.TheVariants.{Channels, Uplink, Offsets, Bitmap, Intervals, Levels, Start, Lent, Unfit, Back, Future, Unset, Outside, Resource, Code, Riv, Padding, Rsrp, Sent, OtherRecord, Full, Readings, OtherReadings, Length, Interval, Turns, Priority, Times, NoCandidate, TooFew, NoReport, NoPlace, Limit, NotOut, Spent, NotNow, Occupied, Unknown, Short, Order, TooWide}
 
 -- the refusals by their numbers, from 10 on
-abbrev table : List (Option Refusal)
+abbrev pub table : List (Option Refusal)
 table = Some Channels ∷ Some Uplink ∷ Some Offsets ∷ Some Bitmap ∷ Some Intervals ∷ Some Levels ∷ Some Start ∷ Some Lent ∷ Some Unfit ∷ None ∷ Some Back ∷ Some Future ∷ Some Unset ∷ Some Outside ∷ Some Resource ∷ Some Code ∷ Some Riv ∷ Some Padding ∷ Some Rsrp ∷ Some Sent ∷ Some OtherRecord ∷ Some Full ∷ Some Readings ∷ Some OtherReadings ∷ Some Length ∷ Some Interval ∷ Some Turns ∷ Some Priority ∷ Some Times ∷ None ∷ Some NoCandidate ∷ Some TooFew ∷ Some NoReport ∷ Some NoPlace ∷ Some Limit ∷ Some NotOut ∷ Some Spent ∷ Some NotNow ∷ Some Occupied ∷ None ∷ Some Unknown ∷ Some Short ∷ Some Order ∷ Some TooWide ∷ []
 
 -- what a list in the order of the table has at the number of a refusal
-found : {A : Type 0} (f : Option Refusal → A) (z : A) (e : Refusal) → get_or (map f table) (number e - 10) z ≡ f (Some e)
+pub found : {A : Type 0} (f : Option Refusal → A) (z : A) (e : Refusal) → get_or (map f table) (number e - 10) z ≡ f (Some e)
 found f z Channels = refl
 found f z Uplink = refl
 found f z Offsets = refl

@@ -2,16 +2,12 @@
 #![tactic(auto)]
 
 ghost use Rattle.std.specs.Prelude.{◌≡◌, Some, Decides, nat_eq};
-ghost use Rattle.std.specs.Ordering.{on};
 ghost use Rattle.answer.specs.Numbers.{number as number_of, cause as cause_of, line, Distinct};
-ghost use Rattle.std.specs.Cmp.Rules.{comparing};
-ghost use Rattle.std.proofs.Common.{rules};
-ghost use Rattle.std.specs.Cmp as Keys;
 
 use std::fmt;
 
 // Why a call was refused. CAUSES says what each one means.
-#[derive(Clone, Copy, Debug)]
+#[derive(Clone, Copy, PartialEq, Eq, Debug)]
 pub enum Refusal {
     // Making a pool and a unit.
     Channels = 10,
@@ -66,6 +62,7 @@ pub enum Refusal {
 }
 
 // The causes from number 10 on, with an empty text at each number that no refusal has.
+// A table, since a match with an arm for each refusal would be a function of more than 40 lines.
 static CAUSES: [&str; 44] = [
     "the number of sub-channels is not from 1 to 20",
     "the uplink code is above 7",
@@ -114,45 +111,37 @@ static CAUSES: [&str; 44] = [
 ];
 
 impl Refusal {
-    // The number that stands in the list above.
-    fn tag(self) -> u8
-        ensures { result ≡ number_of self }
-    {
-        self as u8
-    }
-
-    // The number of the refusal, which no other one has.
+    // The number that stands in the list above, which no other refusal has.
     pub fn number(self) -> u8
         ensures value { result ≡ number_of self }
         ensures distinct { Distinct }
     {
-        self.tag()
+        self as u8
     }
 
     // The cause in plain words, on one line.
     pub fn cause(self) -> &'static str
         ensures { result.now ≡ cause_of self }
     {
-        CAUSES[self.number() as usize - 10]
+        CAUSES[usize::from(self.number()) - 10]
     }
-}
 
-// Equal refusals are those with equal numbers, and they are the same refusal.
-impl PartialEq for Refusal {
-    ghost eq = { on number_of nat_eq };
-
-    ghost laws = { Keys.partial_equiv_from_equiv (Prim.search (comparing, rules)) };
-
-    fn eq(&self, other: &Refusal) -> bool
-        ensures gives { result ≡ nat_eq (number_of self.now) (number_of other.now) }
-        ensures decides { Decides result (self.now ≡ other.now) }
+    // Is it the other one? The derived `==` answers that, and equal numbers say the same.
+    pub fn is(self, other: Refusal) -> bool
+        ensures gives { result ≡ nat_eq (number_of self) (number_of other) }
+        ensures decides { Decides result (self ≡ other) }
     {
-        self.number() == other.number()
+        self == other
     }
 }
 
-impl Eq for Refusal {
-    ghost laws = { Prim.search (comparing, rules) };
+// The number of a refusal, as a conversion.
+impl From<Refusal> for u8 {
+    fn from(refusal: Refusal) -> u8
+        ensures { result ≡ number_of refusal }
+    {
+        refusal.number()
+    }
 }
 
 // The number, a colon, a blank and the cause.

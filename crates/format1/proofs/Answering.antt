@@ -2,16 +2,16 @@
 use Rattle.std.proofs.Common.{◌≡◌, ℕ, ◌+◌, ◌<◌, ◌≤◌, true, false, List, Some, Ok, Err, Result, sym, ap, ◌∙◌, subst, arith, MatchResult}
 use Rattle.std.proofs.lemmas.Bool.{le-leb, lt-leb, ne_eqb, eq-eqb, cond-true, cond-false}
 use Rattle.rules.specs.Counting.{first_no}
-use Rattle.rules.specs.Format.{Four, Reads, pair, code_of, riv_of, rest_of, joined, fits, questions, record_with, or_zeros, record_of, reading}
+use Rattle.rules.specs.Format.{Four, Reads, bits, pair, code_of, riv_of, rest_of, joined, fits, questions, record_with, or_zeros, record_of, reading}
 use Rattle.rules.proofs.Reader.{yes_all, read_yes, read_sound}
 use Rattle.answer.specs.declared.Refusal.{Refusal}
 use Rattle.answer.specs.Numbers.{number, answered}
 use Rattle.format1.specs.declared.Record.{Record}
 use Rattle.format1.specs.Records.{meant_of, valued, Meant}
 
--- a field of the word that the bytes spell, at the places that the width gives
-pub at_width : (g : ℕ → ℕ → ℕ) (r x y k w : ℕ) → r ≡ g x k → x ≡ y → k ≡ w → r ≡ g y w
-at_width g r x y k w e p q = e ∙ ap (λ v. g v k) p ∙ ap (g y) q
+-- a field that is read from a word at a place, where the word and the place are known
+pub field_is : (r w x at from size k : ℕ) → r ≡ bits w at size → w ≡ x → at ≡ from → size ≡ k → r ≡ bits x from k
+field_is r w x at from size k e p q t = e ∙ ap (λ v. bits v at size) p ∙ ap (λ f. bits x f size) q ∙ ap (bits x from) t
 
 -- the three clauses of the reader
 pub record Told (n resource : ℕ) (bs : List ℕ) (r : Result Record Refusal) : Type 0 where

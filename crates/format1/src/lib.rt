@@ -22,7 +22,8 @@ pub struct Record {
     // how far away the partner is, and 0 where there is none
     pub gap: u8,
     pub mcs: u8,
-    // the retransmission index: 0 says that the partner is after, 1 that it is before
+    // the retransmission index: 0 says that the partner is after, 1 that it is before;
+    // a number and no enum, since callers fill the fields in, and one above 1 names no partner
     pub again: u8,
 }
 
@@ -30,7 +31,7 @@ pub struct Record {
 fn pair_count(n: u8) -> u16
     ensures { result ≡ pairs n }
 {
-    let n = n as u16;
+    let n = u16::from(n);
     n * (n + 1) / 2
 }
 
@@ -43,7 +44,7 @@ pub fn length_and_start(n: u8, riv: u16) -> Option<(u8, u8)>
     if riv >= pair_count(n) {
         return None;
     }
-    let n = n as u16;
+    let n = u16::from(n);
     let row = riv / n;
     let column = riv % n;
     if row + column < n {
@@ -61,13 +62,25 @@ fn width_of(n: u8) -> u32
     16 - pair_count(n).saturating_sub(1).leading_zeros()
 }
 
-// A field of a word, by its first bit, counted from the highest, and its size.
-fn field(word: u32, from: u32, size: u32) -> u32
-    requires { (1 ≤ from + size) × (from + size ≤ 32) × (size ≤ 15) }
-    ensures value { result ≡ bits word from size }
-    ensures small { result < 2 ^ size }
-{
-    (word >> (32 - (from + size))) & ((1 << size) - 1)
+// The bits of a word that are still to be read: the highest comes first, and `at` of them are read.
+#[derive(Drop)]
+struct Bits {
+    word: u32,
+    at: u32,
+}
+
+impl Bits {
+    // Reads the next field, by its size.
+    fn take(&mut self, size: u32) -> u32
+        requires { (1 ≤ self.old.at + size) × (self.old.at + size ≤ 32) × (size ≤ 15) }
+        ensures value { result ≡ bits self.old.word self.old.at size }
+        ensures small { result < 2 ^ size }
+        ensures word { self.new.word ≡ self.old.word }
+        ensures at { self.new.at ≡ self.old.at + size }
+    {
+        self.at += size;
+        (self.word >> (32 - self.at)) & ((1 << size) - 1)
+    }
 }
 
 // Reads the four bytes of a record that was heard at a resource of n sub-channels, or refuses with the first question
@@ -77,30 +90,37 @@ pub fn read(n: u8, resource: u8, bytes: [u8; 4]) -> Result<Record, Refusal>
     ensures value { valued result ≡ reading n resource bytes }
     ensures exact { MatchResult result (λ x. Reads n resource bytes (meant_of x)) (λ _. (q : Meant) → Reads n resource bytes q → ⊥) }
 {
-    let word = u32::from_be_bytes(bytes);
-    let code = field(word, 3, 4);
+    let mut bits = Bits {
+        word: u32::from_be_bytes(bytes),
+        at: 0,
+    };
+    let priority = bits.take(3);
+    let code = bits.take(4);
     if code > 12 {
         return Err(Refusal::Code);
     }
     let width = width_of(n);
-    let riv = field(word, 7, width);
+    let riv = bits.take(width);
     let Some((length, start)) = length_and_start(n, riv as u16) else {
         return Err(Refusal::Riv);
     };
-    if resource as u16 + length as u16 > n as u16 {
+    if u16::from(resource) + u16::from(length) > u16::from(n) {
         return Err(Refusal::Riv);
     }
-    if field(word, 17 + width, 15 - width) != 0 {
+    let gap = bits.take(4);
+    let mcs = bits.take(5);
+    let again = bits.take(1);
+    if bits.take(15 - width) != 0 {
         return Err(Refusal::Padding);
     }
     Ok(Record {
-        priority: field(word, 0, 3) as u8,
+        priority: priority as u8,
         code: code as u8,
         start,
         length,
-        gap: field(word, 7 + width, 4) as u8,
-        mcs: field(word, 11 + width, 5) as u8,
-        again: field(word, 16 + width, 1) as u8,
+        gap: gap as u8,
+        mcs: mcs as u8,
+        again: again as u8,
     })
 }
 
@@ -116,10 +136,10 @@ impl Record {
     fn at_partner(&self, base: u64, index: u64) -> bool
         ensures { result ≡ partner (meant_of self.now) base index }
     {
-        let gap = self.gap as u64;
+        let gap = u64::from(self.gap);
         match self.again {
-            0 => index >= base && index - base == gap,
-            1 => base >= index && base - index == gap,
+            0 => index.checked_sub(base) == Some(gap),
+            1 => base.checked_sub(index) == Some(gap),
             _ => false,
         }
     }

@@ -10,11 +10,8 @@ use Rattle.pool.specs.declared.Pool.{Pool}
 pub keeps : (p : Pool) → Limits (meaning p)
 keeps p = limits (meaning p) p.limits
 
-pub size_is : (p : Pool) → size (meaning p) ≡ p.size
-size_is p = length-map-range_with_len (word_bit p.bitmap) 0 p.size
+pub size_is : (p : Pool) → size (meaning p) ≡ p.bitmap.size
+size_is p = length-map-range_with_len (word_bit p.bitmap.words) 0 p.bitmap.size
 
-pub small : (p : Pool) → p.size ≤ 100
+pub small : (p : Pool) → p.bitmap.size ≤ 100
 small p = omega (arith, size_is p, (keeps p).most)
-
-pub some_bits : (p : Pool) → 10 ≤ p.size
-some_bits p = omega (arith, size_is p, (keeps p).least)

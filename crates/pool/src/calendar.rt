@@ -1,11 +1,11 @@
 // How the pool counts subframes, in closed form.
-ghost use Rattle.std.specs.Prelude.{◌≡◌, ℕ, ◌+◌, ◌-◌, ◌*◌, ◌/◌, ◌%◌, ◌^◌, ◌<◌, ◌≤◌, Bool, true, false, length};
+ghost use Rattle.std.specs.Prelude.{◌≡◌, ℕ, ◌+◌, ◌-◌, ◌*◌, ◌/◌, ◌%◌, ◌^◌, ◌<◌, ◌≤◌, Bool, true, false, length, take};
 ghost use Rattle.rules.specs.Counting.{among, count_below};
 ghost use Rattle.rules.specs.Calendar.{positions as uplink_positions, step, window, remains, rank, remaining, left_over, kept, cycle, in_set, index, index_of, Next};
 ghost use Rattle.rules.specs.Closed.{uplink_mask, uplink_before, sync_before, reserved_before};
 ghost use Rattle.pool.specs.Pools.{meaning};
 
-use crate::Pool;
+use crate::{Offsets, Pool};
 
 // Subframes come round after this many.
 const DAY: u64 = 10240;
@@ -22,44 +22,46 @@ const UPLINK: [u16; 8] = [
     0b11_1111_1111,
 ];
 
-// The uplink mask of a code.
-pub(crate) fn mask_of(code: u8) -> u16
-    requires { code ≤ 7 }
+// The uplink mask of a code; a code above 7 has no uplink position.
+fn mask_of(code: u8) -> u16
     ensures { result ≡ uplink_mask code }
 {
-    UPLINK[code as usize]
+    UPLINK.get(usize::from(code)).copied().unwrap_or(0)
 }
 
-// Is a place in ten an uplink position of the code?
-pub(crate) fn on_uplink(code: u8, place: u32) -> bool
-    requires { (code ≤ 7) × (place < 10) }
-    ensures { result ≡ among place (uplink_positions code) }
+// Is place d of the 10,240 on an uplink position of the code?
+pub(crate) fn on_uplink(code: u8, d: u16) -> bool
+    ensures { result ≡ among (d % 10) (uplink_positions code) }
 {
-    (mask_of(code) >> place) % 2 == 1
+    (mask_of(code) >> (d % 10)) % 2 == 1
 }
 
-// How many subframes before d are on one of the offsets.
-fn offsets_before(offsets: &[u8], d: u32) -> u32
-    requires { (d ≤ 10240) × (length offsets.now ≤ 3) }
-    ensures value { result ≡ sync_before offsets.now d }
-{
-    let mut sum = 0;
-    for offset in offsets {
-        sum += (d + 159).saturating_sub(u32::from(*offset)) / 160;
+impl Offsets {
+    // Those that are used.
+    fn all(&self) -> &[u8]
+        ensures value { result.now ≡ take self.now.used self.now.places }
+        ensures few { length result.now ≤ 3 }
+    {
+        &self.places[..usize::from(self.used)]
     }
-    sum
-}
 
-// Is a place in 160 one of the offsets?
-pub(crate) fn on_offset(offsets: &[u8], place: u32) -> bool
-    ensures { result ≡ among place offsets.now }
-{
-    for offset in offsets {
-        if u32::from(*offset) == place {
-            return true;
-        }
+    // Is place d of the 10,240 on one of them?
+    fn has(&self, d: u16) -> bool
+        ensures { result ≡ among (d % 160) (take self.now.used self.now.places) }
+    {
+        self.all().contains(&((d % 160) as u8))
     }
-    false
+
+    // How many subframes before d are on one of them.
+    fn before(&self, d: u16) -> u32
+        ensures value { result ≡ sync_before (take self.now.used self.now.places) d }
+    {
+        let d = u32::from(d);
+        self.all()
+            .iter()
+            .map(|offset| (d + 159).saturating_sub(u32::from(*offset)) / 160)
+            .sum()
+    }
 }
 
 impl Pool {
@@ -73,21 +75,11 @@ impl Pool {
     }
 
     // How many subframes before d are on an uplink position.
-    fn uplink_before(&self, d: u32) -> u32
-        requires { d ≤ 10240 }
+    fn uplink_before(&self, d: u16) -> u32
         ensures value { result ≡ uplink_before (meaning self.now).uplink d }
     {
-        let mask = mask_of(self.uplink);
-        let below = mask & ((1 << (d % 10)) - 1);
-        self.positions() * (d / 10) + below.count_ones()
-    }
-
-    // How many subframes before d are on a sync offset.
-    fn sync_before(&self, d: u32) -> u32
-        requires { d ≤ 10240 }
-        ensures value { result ≡ sync_before (meaning self.now).offsets d }
-    {
-        offsets_before(&self.offsets[0..self.used as usize], d)
+        let below = mask_of(self.uplink) & ((1 << (d % 10)) - 1);
+        self.positions() * u32::from(d / 10) + below.count_ones()
     }
 
     // The number of sub-channels.
@@ -118,7 +110,7 @@ impl Pool {
         ensures some { 832 ≤ result }
         ensures few { result ≤ 10240 }
     {
-        1024 * self.positions() - 64 * u32::from(self.used)
+        1024 * self.positions() - 64 * u32::from(self.offsets.used)
     }
 
     // V, how many of them are reserved.
@@ -126,7 +118,7 @@ impl Pool {
         ensures value { result ≡ left_over (meaning self.now) }
         ensures few { result < 100 }
     {
-        self.remaining() % u32::from(self.size)
+        self.remaining() % u32::from(self.bitmap.size)
     }
 
     // T, how many subframes of 10,240 are in the set.
@@ -138,27 +130,19 @@ impl Pool {
         self.remaining() - self.left_over()
     }
 
-    // Is place d of the 10,240 on a sync offset?
-    fn on_sync(&self, d: u32) -> bool
-        ensures value { result ≡ among (d % 160) (meaning self.now).offsets }
-    {
-        on_offset(&self.offsets[0..self.used as usize], d % 160)
-    }
-
     // Does the subframe at place d of its 10,240 remain?
-    fn remains(&self, d: u32) -> bool
+    fn remains(&self, d: u16) -> bool
         ensures { result ≡ remains (meaning self.now) d }
     {
-        on_uplink(self.uplink, d % 10) && !self.on_sync(d)
+        on_uplink(self.uplink, d) && !self.offsets.has(d)
     }
 
     // How many subframes before place d remain.
-    fn rank(&self, d: u32) -> u32
-        requires { d ≤ 10240 }
+    fn rank(&self, d: u16) -> u32
         ensures value { result ≡ rank (meaning self.now) d }
-        ensures few { result ≤ 10240 }
+        ensures few { result ≤ d }
     {
-        self.uplink_before(d) - self.sync_before(d)
+        self.uplink_before(d) - self.offsets.before(d)
     }
 
     // How many reserved ranks are below k.
@@ -171,7 +155,7 @@ impl Pool {
     }
 
     // How many set subframes lie before place d.
-    fn set_before(&self, d: u32) -> u32
+    fn set_before(&self, d: u16) -> u32
         requires { d ≤ 10240 }
         ensures value { result ≡ count_below (kept (meaning self.now)) d }
         ensures few { result ≤ d }
@@ -184,7 +168,7 @@ impl Pool {
     pub fn in_set(&self, subframe: u64) -> bool
         ensures { result ≡ in_set (meaning self.now) subframe }
     {
-        let d = (subframe % DAY) as u32;
+        let d = (subframe % DAY) as u16;
         if !self.remains(d) {
             return false;
         }
@@ -198,7 +182,7 @@ impl Pool {
         ensures first { Next (meaning self.now) subframe result }
         ensures bound { result ≤ subframe }
     {
-        let d = (subframe % DAY) as u32;
+        let d = (subframe % DAY) as u16;
         u64::from(self.cycle()) * (subframe / DAY) + u64::from(self.set_before(d))
     }
 
@@ -206,10 +190,6 @@ impl Pool {
     pub fn index(&self, subframe: u64) -> Option<u64>
         ensures { result ≡ index_of (meaning self.now) subframe }
     {
-        if self.in_set(subframe) {
-            Some(self.next_index(subframe))
-        } else {
-            None
-        }
+        self.in_set(subframe).then(|| self.next_index(subframe))
     }
 }

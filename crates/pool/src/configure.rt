@@ -1,97 +1,69 @@
 // Making a pool: the questions of configure, and the pool that stands before it.
-ghost use Rattle.std.specs.Prelude.{◌≡◌, ℕ, ◌+◌, ◌-◌, ◌*◌, ◌/◌, ◌%◌, ◌^◌, ◌<◌, ◌≤◌, Bool, true, false, ◌&&◌, List, [], ◌∷◌, length, Decides, ◌≢◌, count_ones, nat_eq, nat_lt, slice_index};
+ghost use Rattle.std.specs.Prelude.{◌≡◌, ℕ, ◌+◌, ◌-◌, ◌*◌, ◌/◌, ◌%◌, ◌^◌, ◌<◌, ◌≤◌, Bool, true, false, ◌&&◌, List, [], ◌∷◌, length, ◌≢◌, nat_eq, slice_index, MatchOption, IfOk};
 ghost use Rattle.answer.specs.Numbers.{answered};
-ghost use Rattle.rules.specs.Counting.{any, every, among, distinct};
+ghost use Rattle.rules.specs.Counting.{every, among, distinct};
 ghost use Rattle.rules.specs.Closed.{word_bit};
 ghost use Rattle.rules.specs.Configure.{byte_bit, sizes, offset_ok, offsets_question, bitmap_ok, levels_ok, configured, pool_of, built_in};
-ghost use Rattle.pool.specs.Pools.{meaning, asked};
+ghost use Rattle.pool.specs.Pools.{meaning, asked, SameBits};
 
-use crate::calendar::{on_offset, on_uplink};
-use crate::levels::bit_of;
-use crate::{Pool, Settings};
+use crate::calendar::on_uplink;
+use crate::{Bitmap, Offsets, Pool, Settings};
 use answer::Refusal;
 
 // Is each level at most 66?
-#[tactic(auto, using(rules::proofs::Lists::every_below))]
 fn levels_ok(levels: &[u8]) -> bool
     ensures { result ≡ levels_ok levels.now }
 {
-    for level in levels {
-        if *level > 66 {
-            return false;
-        }
-    }
-    true
+    levels.iter().all(|level| *level <= 66)
 }
 
 // Is the offset below 160 and on an uplink position?
 fn offset_ok(uplink: u8, offset: u8) -> bool
-    requires { uplink ≤ 7 }
     ensures { result ≡ offset_ok uplink offset }
 {
-    offset < 160 && on_uplink(uplink, u32::from(offset % 10))
+    offset < 160 && on_uplink(uplink, u16::from(offset))
 }
 
 // Is each offset below 160 and on an uplink position?
 fn placed(uplink: u8, offsets: &[u8]) -> bool
-    requires { uplink ≤ 7 }
     ensures { result ≡ every (offset_ok uplink) offsets.now }
 {
-    for offset in offsets {
-        if !offset_ok(uplink, *offset) {
-            return false;
-        }
-    }
-    true
+    offsets.iter().all(|offset| offset_ok(uplink, *offset))
 }
 
 // Is no offset there twice?
 fn apart(offsets: &[u8]) -> bool
     ensures { result ≡ distinct offsets.now }
 {
-    for i in 0..offsets.len() {
-        if on_offset(&offsets[i + 1..], u32::from(offsets[i])) {
-            return false;
-        }
+    match offsets {
+        [] => true,
+        [first, rest @ ..] => !rest.contains(first) && apart(rest),
     }
-    true
 }
 
 // Is each place zero?
 fn unused(places: &[u8]) -> bool
     ensures { result ≡ every (λ o. nat_eq o 0) places.now }
 {
-    for place in places {
-        if *place != 0 {
-            return false;
-        }
-    }
-    true
+    places.iter().all(|place| *place == 0)
 }
 
 // Are at most three offsets used, distinct, below 160 and on uplink positions, and the other places zero?
 fn offsets_ok(uplink: u8, used: u8, offsets: &[u8; 3]) -> bool
-    requires { uplink ≤ 7 }
     ensures { result ≡ offsets_question uplink used offsets.now }
 {
     if used > 3 {
         return false;
     }
-    let n = used as usize;
-    if !placed(uplink, &offsets[0..n]) || !apart(&offsets[0..n]) {
-        return false;
-    }
-    unused(&offsets[n..])
+    let (used, rest) = offsets.split_at(usize::from(used));
+    placed(uplink, used) && apart(used) && unused(rest)
 }
 
 // May a bitmap have this length?
 fn size_ok(size: u8) -> bool
     ensures { result ≡ among size sizes }
 {
-    match size {
-        10 | 16 | 20 | 30 | 40 | 50 | 60 | 100 => true,
-        _ => false,
-    }
+    matches!(size, 10 | 16 | 20 | 30 | 40 | 50 | 60 | 100)
 }
 
 // Four bytes as a word, the first one highest.
@@ -103,7 +75,8 @@ fn word(a: u8, b: u8, c: u8, d: u8) -> u32
 
 // The bitmap's bytes as words.
 fn words(b: &[u8; 13]) -> [u32; 4]
-    ensures { (i : ℕ) → i < 128 → word_bit result i ≡ byte_bit b.now i }
+    ensures same { (i : ℕ) → i < 128 → word_bit result i ≡ byte_bit b.now i }
+    ensures fits { (k : ℕ) → slice_index result k < 2 ^ 32 }
 {
     [
         word(b[0], b[1], b[2], b[3]),
@@ -113,51 +86,21 @@ fn words(b: &[u8; 13]) -> [u32; 4]
     ]
 }
 
-// Has some word a bit that is one?
-fn some_bit(words: &[u32; 4]) -> bool
-    ensures { result ≡ any (λ w. nat_lt 0 (count_ones w)) words.now }
+// The bitmap, if its length is allowed, some bit is one, and no bit past the length.
+fn bitmap(size: u8, bytes: &[u8; 13]) -> Option<Bitmap>
+    ensures { MatchOption result (bitmap_ok size bytes.now ≡ false) (SameBits size bytes.now) }
 {
-    for word in words {
-        if word.count_ones() > 0 {
-            return true;
-        }
-    }
-    false
+    let words = words(bytes);
+    let bitmap = Bitmap { size, words };
+    (size_ok(size) && bitmap.rest_zero() && bitmap.some_bit()).then_some(bitmap)
 }
 
-// Are the bits from the bitmap's length on zero?
-fn rest_zero(size: u8, words: &[u32; 4]) -> bool
-    requires { size ≤ 104 }
-    ensures { Decides result ((i : ℕ) → size ≤ i → i < 104 → word_bit words.now i ≡ false) }
+// The questions of configure in their order, and the bitmap where each is answered yes.
+fn check(s: &Settings) -> Result<Bitmap, Refusal>
+    ensures answer { answered result ≡ configured (asked s.now) }
+    ensures bits { IfOk result (SameBits s.now.size s.now.bitmap) }
 {
-    for i in size..104 {
-        if bit_of(words, i) {
-            return false;
-        }
-    }
-    true
-}
-
-// Is the bitmap's length allowed, some bit one, and no bit past the length?
-fn bitmap_ok(s: &Settings, words: &[u32; 4]) -> bool
-    requires { (i : ℕ) → i < 128 → word_bit words.now i ≡ byte_bit s.now.bitmap i }
-    ensures { result ≡ bitmap_ok s.now.size s.now.bitmap }
-{
-    if !size_ok(s.size) {
-        return false;
-    }
-    if !rest_zero(s.size, words) {
-        return false;
-    }
-    some_bit(words)
-}
-
-// The questions of configure in their order, with the bitmap in words.
-fn check(s: &Settings, words: &[u32; 4]) -> Result<(), Refusal>
-    requires { (i : ℕ) → i < 128 → word_bit words.now i ≡ byte_bit s.now.bitmap i }
-    ensures { answered result ≡ configured (asked s.now) }
-{
-    if s.channels < 1 || s.channels > 20 {
+    if !matches!(s.channels, 1..=20) {
         return Err(Refusal::Channels);
     }
     if s.uplink > 7 {
@@ -166,16 +109,14 @@ fn check(s: &Settings, words: &[u32; 4]) -> Result<(), Refusal>
     if !offsets_ok(s.uplink, s.used, &s.offsets) {
         return Err(Refusal::Offsets);
     }
-    if !bitmap_ok(s, words) {
-        return Err(Refusal::Bitmap);
-    }
-    if s.intervals < 1 || s.intervals > 4095 {
+    let bitmap = bitmap(s.size, &s.bitmap).ok_or(Refusal::Bitmap)?;
+    if !matches!(s.intervals, 1..=4095) {
         return Err(Refusal::Intervals);
     }
     if !levels_ok(&s.levels) {
         return Err(Refusal::Levels);
     }
-    Ok(())
+    Ok(bitmap)
 }
 
 impl Pool {
@@ -186,10 +127,14 @@ impl Pool {
         Pool {
             channels: 1,
             uplink: 7,
-            used: 0,
-            offsets: [0, 0, 0],
-            size: 10,
-            bitmap: [0xffc0_0000, 0, 0, 0],
+            offsets: Offsets {
+                used: 0,
+                places: [0, 0, 0],
+            },
+            bitmap: Bitmap {
+                size: 10,
+                words: [0xffc0_0000, 0, 0, 0],
+            },
             intervals: 0xfff,
             levels: [66; 64],
         }
@@ -201,14 +146,14 @@ impl Pool {
         ensures done { answered result ≡ 0 → meaning self.new ≡ pool_of (asked s.now) }
         ensures refused { (answered result ≢ 0) → self.new ≡ self.old }
     {
-        let bitmap = words(&s.bitmap);
-        check(s, &bitmap)?;
+        let bitmap = check(s)?;
         *self = Pool {
             channels: s.channels,
             uplink: s.uplink,
-            used: s.used,
-            offsets: s.offsets,
-            size: s.size,
+            offsets: Offsets {
+                used: s.used,
+                places: s.offsets,
+            },
             bitmap,
             intervals: s.intervals,
             levels: s.levels,

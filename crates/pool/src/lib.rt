@@ -15,10 +15,11 @@ pub mod levels;
 pub struct Settings {
     pub channels: u8,
     pub uplink: u8,
-    // how many of the three offsets are used; the others are zero
+    // how many of the three offsets are used; the others are here too, since configure asks whether they are zero
     pub used: u8,
     pub offsets: [u8; 3],
     // the bitmap's length, and its bytes: bit 0 is the highest bit of byte 0
+    // all thirteen bytes are here, since configure asks whether the bits past the length are zero
     pub size: u8,
     pub bitmap: [u8; 13],
     // bit c - 1 allows interval code c
@@ -26,19 +27,32 @@ pub struct Settings {
     pub levels: [u8; 64],
 }
 
-// A pool that keeps its limits. The bitmap lies in words, bit 0 the highest bit of word 0.
+// The sync offsets of a pool: three places, and how many of them are used.
+// The array has a length beside it, as has the bitmap's, since a pool is `Copy` and the kit's `ArrayVec` is not.
+#[derive(Clone, Copy)]
+struct Offsets {
+    used: u8,
+    places: [u8; 3],
+    ghost few: { used ≤ 3 },
+}
+
+// The bitmap of a pool: its length, and its bits in words, bit 0 the highest bit of word 0.
+#[derive(Clone, Copy)]
+struct Bitmap {
+    size: u8,
+    words: [u32; 4],
+}
+
+// A pool that keeps its limits.
 #[derive(Clone, Copy)]
 pub struct Pool {
     channels: u8,
     uplink: u8,
-    used: u8,
-    offsets: [u8; 3],
-    size: u8,
-    bitmap: [u32; 4],
+    offsets: Offsets,
+    bitmap: Bitmap,
     intervals: u16,
     levels: [u8; 64],
-    ghost few: { used ≤ 3 },
-    ghost limits: { within (meant channels uplink used offsets size bitmap intervals levels) ≡ true },
-    ghost some: { 0 < cycle (meant channels uplink used offsets size bitmap intervals levels) },
-    ghost whole: { cycle (meant channels uplink used offsets size bitmap intervals levels) % size ≡ 0 },
+    ghost limits: { within (meant channels uplink offsets.used offsets.places bitmap.size bitmap.words intervals levels) ≡ true },
+    ghost some: { 0 < cycle (meant channels uplink offsets.used offsets.places bitmap.size bitmap.words intervals levels) },
+    ghost whole: { cycle (meant channels uplink offsets.used offsets.places bitmap.size bitmap.words intervals levels) % bitmap.size ≡ 0 },
 }

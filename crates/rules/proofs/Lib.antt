@@ -29,3 +29,4 @@ pub mod Accepted
 pub mod Totals
 pub mod Tallies
 pub mod Samples
+pub mod Chains

@@ -1,8 +1,7 @@
 -- Tests over lists, by places. Assumes nothing.
-use Rattle.std.proofs.Common.{◌≡◌, ℕ, zero, suc, ◌+◌, ◌-◌, ◌<◌, ◌≤◌, Bool, true, false, not, ◌&&◌, ◌⊎◌, leb, List, [], ◌∷◌, length, get_or, take, drop, sym, refl, inl, inr, ⊎_elim, add-one, arith, length-drop, drop-cons}
-use Rattle.std.proofs.lemmas.List.{take_all}
-use Rattle.std.proofs.lemmas.Bool.{and_parts, and_from, and_left, and_right, or_cases, or_left, or_right, or_from, true≢false, cases_Bool, leb-true}
-use Rattle.rules.specs.Counting.{any, every, among, distinct}
+use Rattle.std.proofs.Common.{◌≡◌, ℕ, zero, suc, ◌<◌, ◌≤◌, Bool, true, false, ◌⊎◌, leb, List, [], ◌∷◌, length, get_or, sym, refl, inl, inr, ⊎_elim, arith}
+use Rattle.std.proofs.lemmas.Bool.{and_parts, and_from, and_left, and_right, or_cases, or_left, or_right, true≢false, cases_Bool, leb-true}
+use Rattle.rules.specs.Counting.{any, every}
 
 -- two tests that imply each other answer alike
 pub both : (a b : Bool) → (a ≡ true → b ≡ true) → (b ≡ true → a ≡ true) → a ≡ b
@@ -23,10 +22,6 @@ module _ {X : Type 0} (p : X → Bool) where
   any_from [] d k h t = absurd (omega arith)
   any_from (x ∷ xs) d zero h t = or_left (p x) (any p xs) t
   any_from (x ∷ xs) d (suc k) h t = or_right (p x) (any p xs) (any_from xs d k (omega arith) t)
-
-  pub any_none : (xs : List X) (d : X) → ((k : ℕ) → k < length xs → p (get_or xs k d) ≡ false) → any p xs ≡ false
-  any_none [] d h = refl
-  any_none (x ∷ xs) d h = or_from (p x) (any p xs) (h 0 (omega arith)) (any_none xs d (λ k l. h (suc k) (omega arith)))
 
   pub every_at : (xs : List X) (d : X) → every p xs ≡ true → (k : ℕ) → k < length xs → p (get_or xs k d) ≡ true
   every_at [] d t k h = absurd (omega arith)
@@ -49,11 +44,3 @@ every_below b xs k h =
     (λ (t : leb (get_or xs k 0) b ≡ true). inl (leb-true (get_or xs k 0) b t))
     (λ (t : leb (get_or xs k 0) b ≡ false). inr (every_fails (λ l. leb l b) xs 0 k h t))
     (cases_Bool (leb (get_or xs k 0) b))
-
--- what is left of a list from i on
-pub rest_is : (xs : List ℕ) (i : ℕ) → take (length xs - i) (drop i xs) ≡ drop i xs
-rest_is xs i = take_all (length xs - i) (drop i xs) (omega (arith, length-drop i xs))
-
--- the elements from i on are distinct if the first of them does not come again and the others are distinct
-pub distinct_from : (xs : List ℕ) (i : ℕ) → i < length xs → distinct (drop i xs) ≡ (not (among (get_or xs i 0) (drop (i + 1) xs)) && distinct (drop (i + 1) xs))
-distinct_from xs i h = rw (add-one, drop-cons xs i 0 h)

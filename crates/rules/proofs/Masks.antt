@@ -1,7 +1,9 @@
 -- The uplink mask of a code, and its ones. Assumes nothing.
-use Rattle.std.proofs.Common.{◌≡◌, ℕ, ◌/◌, ◌%◌, ◌^◌, ◌<◌, ◌≤◌, Bool, true, false, not, eqb, length, sym, refl, arith}
+use Rattle.std.proofs.Common.{◌≡◌, ℕ, ◌/◌, ◌%◌, ◌^◌, ◌<◌, ◌≤◌, Bool, true, false, not, eqb, [], length, sym, refl, ap, ⊎_elim, arith}
 use lib.Count.{ones, ones_in}
-use Rattle.std.proofs.lemmas.Bool.{eqb-true}
+use Rattle.std.proofs.Math.Nat.{zero-div}
+use Rattle.std.proofs.lemmas.Bool.{eqb-true, cases_lt}
+use Rattle.std.proofs.lemmas.List.{get_or_past}
 use Rattle.rules.specs.Counting.{all_below, among}
 use Rattle.rules.specs.Calendar.{positions}
 use Rattle.rules.specs.Closed.{positions_below, uplink_mask}
@@ -27,8 +29,16 @@ bit_table : all_below (λ c. all_below (bit_test c) 10) 8 ≡ true
 unfolding same
 bit_table = refl
 
-pub mask_bit : (code r : ℕ) → code ≤ 7 → r < 10 → eqb (uplink_mask code / 2 ^ r % 2) 1 ≡ among r (positions code)
-mask_bit code r c h = same_is _ _ (all_at (bit_test code) 10 (all_at (λ c. all_below (bit_test c) 10) 8 bit_table code (omega arith)) r h)
+-- a code that there is not has no positions
+no_positions : (code : ℕ) → 8 ≤ code → positions code ≡ []
+no_positions code h = search (get_or_past, arith)
+
+pub mask_bit : (code r : ℕ) → r < 10 → eqb (uplink_mask code / 2 ^ r % 2) 1 ≡ among r (positions code)
+mask_bit code r h =
+    ⊎_elim
+    (λ (c : code < 8). same_is _ _ (all_at (bit_test code) 10 (all_at (λ c. all_below (bit_test c) 10) 8 bit_table code c) r h))
+    (λ (c : 8 ≤ code). rw (no_positions code c) (ap (λ n. eqb (n % 2) 1) (zero-div (2 ^ r))))
+    (cases_lt code 8)
 
 -- the mask's bits below a place count the positions below it
 abbrev below_test : ℕ → ℕ → Bool

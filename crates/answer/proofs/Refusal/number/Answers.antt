@@ -1,5 +1,5 @@
 use Rattle.answer.proofs.Tables.{distinct}
 use Rattle.answer.proofs.Refusal.number.Goals as goal
 
-pub returns : goal.returns
-returns c = record { value = c.tag.ensures; distinct = distinct }
+pub returns-clause-distinct : goal.returns-clause-distinct
+returns-clause-distinct c = distinct

@@ -3,10 +3,10 @@ use Rattle.std.proofs.lemmas.Bool.Decides.{nat_tests}
 use Rattle.rules.specs.Calendar.{allowed}
 use Rattle.pool.proofs.Pool.allows.Goals as goal
 
-pub returns-then-code-lt1 : goal.returns-then-code-lt1
+pub returns-then-matches : goal.returns-then-matches
 unfolding allowed
-returns-then-code-lt1 c = grind (arith, nat_tests)
+returns-then-matches c = grind (arith, nat_tests)
 
-pub returns : goal.returns
+pub returns-else-matches : goal.returns-else-matches
 unfolding allowed
-returns c = grind (arith, nat_tests)
+returns-else-matches c = grind (arith, nat_tests)

@@ -1,4 +1,5 @@
 use Rattle.std.proofs.Common.{false, sym, ◌∙◌, arith}
+use Rattle.std.proofs.lemmas.Bool.{le-ltb}
 use Rattle.std.proofs.lemmas.List.FromFn.{get_or-map-range_with_len}
 use Rattle.std.proofs.lemmas.List.{get_or_past}
 use Rattle.rules.specs.Closed.{word_bit}
@@ -6,15 +7,15 @@ use Rattle.pool.specs.Pools.{meaning}
 use Rattle.pool.proofs.Kept.{small, size_is}
 use Rattle.pool.proofs.Pool.bit.Goals as goal
 
-pub bit_of-requires : goal.bit_of-requires
-bit_of-requires c = omega (arith, small c.args.self.now)
+pub word_bit-requires : goal.word_bit-requires
+word_bit-requires c = omega (arith, small c.args.self.now)
 
 pub returns-then-i-self : goal.returns-then-i-self
 returns-then-i-self c =
     let p = c.args.self.now in
-    sym (get_or_past (meaning p).bits c.args.i false (omega (arith, size_is p)))
+    c.word_bit.ensures ∙ sym (get_or-map-range_with_len (word_bit p.bitmap.words) 0 p.bitmap.size c.args.i c.args.i false (omega arith) (omega arith))
 
-pub returns : goal.returns
-returns c =
+pub returns-else-i-self : goal.returns-else-i-self
+returns-else-i-self c =
     let p = c.args.self.now in
-    c.bit_of.ensures ∙ sym (get_or-map-range_with_len (word_bit p.bitmap) 0 p.size c.args.i c.args.i false (omega arith) (omega arith))
+    le-ltb c.args.i p.bitmap.size (omega arith) ∙ sym (get_or_past (meaning p).bits c.args.i false (omega (arith, size_is p)))

@@ -10,7 +10,7 @@ overflow_sub-result c =
     let p = c.args.self.now in
     let e = rank_closed (meaning p) (keeps p) c.args.d in
     let u = c.uplink_before.ensures.value in
-    let s = c.sync_before.ensures.value in
+    let s = c.before-2.ensures.value in
     omega arith
 
 pub returns : goal.returns
@@ -19,5 +19,5 @@ returns c =
     let e = rank_closed (meaning p) (keeps p) c.args.d in
     let l = rank_le (meaning p) (keeps p) c.args.d in
     let u = c.uplink_before.ensures.value in
-    let s = c.sync_before.ensures.value in
+    let s = c.before-2.ensures.value in
     record { value = omega arith; few = omega arith }

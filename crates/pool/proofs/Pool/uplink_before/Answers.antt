@@ -16,8 +16,8 @@ returns c =
     let l = limits (meaning p) p.limits in
     let less : d % 10 < 10 = omega arith in
     let shift = one_shl (d % 10) 16 (omega arith) in
-    let low : ones (bit_and c.mask_of-mask.result (1 * 2 ^ (d % 10) % 65536 - 1)) ≡ positions_below p.uplink (d % 10) =
-    ap (λ m. ones (bit_and c.mask_of-mask.result (m - 1))) shift ∙ ap ones (and_mask c.mask_of-mask.result (d % 10)) ∙ ap (λ m. ones (m % 2 ^ (d % 10))) c.mask_of-mask.ensures ∙ mask_below p.uplink (d % 10) l.coded less in
+    let low : ones (bit_and c.mask_of.result (1 * 2 ^ (d % 10) % 65536 - 1)) ≡ positions_below p.uplink (d % 10) =
+    ap (λ m. ones (bit_and c.mask_of.result (m - 1))) shift ∙ ap ones (and_mask c.mask_of.result (d % 10)) ∙ ap (λ m. ones (m % 2 ^ (d % 10))) c.mask_of.ensures ∙ mask_below p.uplink (d % 10) l.coded less in
     record {
-      value = ap (λ n. c.positions.result * (d / 10) + n) low ∙ ap (λ n. n * (d / 10) + positions_below p.uplink (d % 10)) c.positions.ensures.value;
+      value = ap (λ q. c.positions.result * q + ones (bit_and c.mask_of.result (1 * 2 ^ (d % 10) % 65536 - 1))) c.from.ensures ∙ ap (λ n. c.positions.result * (d / 10) + n) low ∙ ap (λ n. n * (d / 10) + positions_below p.uplink (d % 10)) c.positions.ensures.value;
     }

@@ -1,14 +1,12 @@
-use Rattle.std.proofs.Common.{sym, arith, below_more}
+use Rattle.std.proofs.Common.{◌∙◌, rules}
+use Rattle.std.proofs.lemmas.Iterator.{YieldsList-from_slice}
+use Rattle.std.proofs.lemmas.Iterator.Search.{all_from_yields_List}
+use borrow.Author.Tests.{tests}
 use Rattle.rules.specs.Configure.{offset_ok}
-use Rattle.rules.proofs.Lists.{every_from, every_fails}
+use Rattle.rules.proofs.Chains.{every_is}
 use Rattle.pool.proofs.configure.placed.Goals as goal
 
-pub returns-then-not-offset_ok : goal.returns-then-not-offset_ok
-returns-then-not-offset_ok c =
-    sym (every_fails (offset_ok c.args.uplink) c.args.offsets.now 0 c.loop-offset.offset-index (omega arith) (sym c.if-not-offset_ok.ensures))
-
-pub loop-offset-preserved : goal.loop-offset-preserved
-loop-offset-preserved c = below_more _ _ c.loop-offset.invariant (sym c.if-not-offset_ok.ensures)
-
 pub returns : goal.returns
-returns c = sym (every_from (offset_ok c.args.uplink) c.args.offsets.now 0 (λ k h. c.loop-offset.invariant k (omega arith)))
+returns c =
+    all_from_yields_List (offset_ok c.args.uplink) _ _ c.all.result c.all.ensures.ran (YieldsList-from_slice c.args.offsets.now cc) (λ x b q k. search (rules, tests))
+    ∙ every_is _ c.args.offsets.now
