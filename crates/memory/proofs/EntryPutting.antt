@@ -2,9 +2,11 @@
 use Rattle.std.proofs.Common.{◌≡◌, ℕ, zero, suc, ◌+◌, ◌<◌, ◌≤◌, true, false, cond, not, List, [], ◌∷◌, length, get_or, set, is_some, Some, None, Option, sym, refl, ap, ◌∙◌, ⊎_elim, arith}
 use Rattle.std.proofs.lemmas.List.{length-set}
 use Rattle.std.proofs.lemmas.Bool.{cases_Bool, and_parts, and_from, eq-eqb, eqb-true, cond-true, cond-false, true≢false}
+use Rattle.std.specs.Option.{MatchOption}
+use Rattle.std.specs.List.{AllWithin, HoldsAt}
 use Rattle.sensing.specs.declared.Held.{Held}
 use Rattle.memory.specs.declared.entries.Entry.{Entry}
-use Rattle.memory.specs.EntryPlaces.{of, find, apart, within, live, used, Put}
+use Rattle.memory.specs.EntryPlaces.{of, find, apart, within, live, used, Free, Put}
 
 pub some_none : {A : Type 0} {x : A} → Some x ≡ None → ⊥
 some_none e = let z : ◌≡◌ {A = ℕ} 0 1 = cc in omega arith
@@ -99,6 +101,11 @@ pub used_full : (ps : List (Option Entry)) → ((k : ℕ) → k < length ps → 
 used_full [] h = refl
 used_full (None ∷ ps) h = absurd (true≢false (sym (h 0 (omega arith))))
 used_full (Some x ∷ ps) h = omega (arith, used_full ps (λ k l. h (suc k) (omega arith)))
+
+-- the first place that holds nothing, or there is none
+pub first_free : (ps : List (Option Entry)) (r : Option ℕ) → MatchOption r (AllWithin (λ p. is_some p ≡ true) ps 0 (length ps)) (λ i. (i < length ps) × HoldsAt (λ p. p ≡ None) ps i × AllWithin (λ p. is_some p ≡ true) ps 0 i) → MatchOption r (used ps ≡ length ps) (Free ps)
+first_free ps None h = used_full ps (λ k l. h k None (omega arith) l)
+first_free ps (Some i) h = record { inside = h.0; free = h.1 None; before = λ j l. h.2 j None (omega arith) l }
 
 pub put_at : (ps : List (Option Entry)) (k : ℕ) (e : Entry) → k < length ps → get_or ps k None ≡ None → Put ps e (set ps k (Some e))
 put_at ps k e less free =
