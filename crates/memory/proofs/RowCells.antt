@@ -190,6 +190,3 @@ cleared_blank n w rows readings i long clear =
 pub cleared_from : (n : ℕ) (rows : List Row) → rows ≡ replicate n bare_row → Cleared rows
 cleared_from n rows is k h =
     ap (λ l. get_or l k bare_row) is ∙ get_or-replicate n k bare_row bare_row (omega (arith, ap length is, length-replicate n bare_row))
-
-pub cleared_upto : (next : ℕ) (rows : List Row) → Cleared rows → Upto next rows
-cleared_upto next rows clear k h = omega (arith, ap (λ (x : Row). x.index) (clear k h))
