@@ -14,11 +14,12 @@ const CHANNELS: u8 = 3;
 
 const WINDOW: u64 = 100;
 
-const ROWS: usize = 101;
+// A row for each index of the window, and a reading for each sub-channel of a row.
+const ROWS: usize = WINDOW as usize + 1;
 
-const CELLS: usize = 303;
+const CELLS: usize = ROWS * CHANNELS as usize;
 
-// What a memory is lent: rows, readings and K places, none of them empty but the places.
+// What a memory is lent, with K places. The rows and the readings hold something already, which a new memory does not see.
 #[derive(Drop)]
 struct Lent<P, const K: usize> {
     rows: [Row; ROWS],

@@ -45,6 +45,24 @@ pub first_none : (p : Option Entry) (ps : List (Option Entry)) (i a : ℕ) → N
 first_none None ps i a e = refl
 first_none (Some x) ps i a e = cond-false _ (Some x.held) (find ps i a) (not_found x [] i a (sym e)).0
 
+-- what is found is what the first place holds that holds any of it
+module _ (i a : ℕ) where
+  abbrev Misses : List (Option Entry) → ℕ → Type 0
+  Misses ps n = (k : ℕ) → k < n → find (get_or ps k None ∷ []) i a ≡ None
+
+  find_none : (ps : List (Option Entry)) → Misses ps (length ps) → find ps i a ≡ None
+  find_none [] h = refl
+  find_none (p ∷ ps) h = first_none p ps i a (sym (h 0 (omega arith))) ∙ find_none ps (λ k l. h (suc k) (omega arith))
+
+  find_some : (ps : List (Option Entry)) (x : Held) (n : ℕ) → n < length ps → find (get_or ps n None ∷ []) i a ≡ Some x → Misses ps n → find ps i a ≡ Some x
+  find_some [] x n less e h = absurd (omega arith)
+  find_some (p ∷ ps) x zero less e h = sym (first_some p ps i a x (sym e))
+  find_some (p ∷ ps) x (suc n) less e h = first_none p ps i a (sym (h 0 (omega arith))) ∙ find_some ps x n (omega arith) e (λ k l. h (suc k) (omega arith))
+
+  pub found : (ps : List (Option Entry)) (r : Option Held) → (r ≡ None → Misses ps (length ps)) → ((x : Held) → r ≡ Some x → (n : ℕ) × (n < length ps) × (find (get_or ps n None ∷ []) i a ≡ Some x) × Misses ps n) → r ≡ find ps i a
+  found ps None h g = sym (find_none ps (h refl))
+  found ps (Some x) h g = let w = g x refl in sym (find_some ps x w.0 w.1 w.2 w.3)
+
 module _ (e : Entry) where
   put_here : (ps : List (Option Entry)) (k : ℕ) → k < length ps → find ps e.index e.resource ≡ None → find (set ps k (Some e)) e.index e.resource ≡ Some e.held
   put_here [] k less h = absurd (omega arith)

@@ -1,7 +1,7 @@
 -- Two indices of a window stand in two rows, and what a write to one row leaves of the others. Assumes nothing.
 use Rattle.std.proofs.Common.{◌≡◌, ℕ, ◌+◌, ◌-◌, ◌*◌, ◌/◌, ◌%◌, ◌<◌, ◌≤◌, Bool, true, false, cond, eqb, List, ◌++◌, length, get_or, take, drop, set, replicate, Some, sym, refl, ap, ◌∙◌, subst, ⊎_elim, mul-le-mul_right, mod-lt, suc-mul, add-mul, one-mul, div-add-mod', arith}
 use lib.Seq.{paste}
-use Rattle.std.proofs.lemmas.List.{get_or-set_same, get_or-set_other, drop-take, drop-drop, drop_at, get_or-take, get_or-drop, take-append-le, take-take, take_all, length-take-le, length-append, length-set, set-get_or, length-replicate, get_or-replicate}
+use Rattle.std.proofs.lemmas.List.{get_or-set_same, get_or-set_other, drop-take, drop-drop, drop_at, get_or-take, get_or-drop, take-append-le, take-take, take_all, length-take-le, length-append, length-set, length-replicate, get_or-replicate}
 use Rattle.std.proofs.lemmas.List.Edits.{take-paste, drop-paste}
 use Rattle.std.proofs.lemmas.Bool.{cases_lt, cases_Bool, cases_eq, cond-true, cond-false, eq-eqb, ne_eqb}
 use Rattle.rules.specs.Sensing.{Cell, blank, mark, is_listened, reading_in}
@@ -133,10 +133,7 @@ module _ (w i : ℕ) (rows rows' : List Row) (r : Row) (long : w < length rows) 
       (λ ne. omega (arith, ap (λ l. (get_or l k bare_row).index) is, ap (λ (x : Row). x.index) (get_or-set_other rows _ k r bare_row ne), old k (omega (arith, ap length is, length-set rows (i % (w + 1)) r))))
       (cases_eq k (i % (w + 1)))
 
--- what each function of rows does
-pub claimed_already : (w i : ℕ) (rows : List Row) → eqb (row_at w rows i).index i ≡ true → rows ≡ set rows (i % (w + 1)) (claimed i (row_at w rows i))
-claimed_already w i rows e = sym (ap (set rows (i % (w + 1))) (cond-true _ (row_at w rows i) (row_of i Blank) e) ∙ set-get_or rows (i % (w + 1)) bare_row)
-
+-- a row that was another index's is claimed
 pub claimed_now : (w i : ℕ) (rows : List Row) → eqb (row_at w rows i).index i ≡ false → set rows (i % (w + 1)) (row_of i Blank) ≡ set rows (i % (w + 1)) (claimed i (row_at w rows i))
 claimed_now w i rows e = sym (ap (set rows (i % (w + 1))) (cond-false _ (row_at w rows i) (row_of i Blank) e))
 

@@ -25,12 +25,9 @@ fn held_at(place: Option<Entry>, index: u64, resource: u8) -> Option<Held>
 pub(crate) fn find(places: &[Option<Entry>], index: u64, resource: u8) -> Option<Held>
     ensures { result ≡ find_in places.now index resource }
 {
-    for place in places {
-        if let Some(held) = held_at(*place, index, resource) {
-            return Some(held);
-        }
-    }
-    None
+    places
+        .iter()
+        .find_map(|place| held_at(*place, index, resource))
 }
 
 // The first place that holds nothing.

@@ -1,4 +1,4 @@
-// The asking half.
+// The asking half. What does not touch a record is put to the ring.
 ghost use Rattle.std.specs.Prelude.{◌≡◌};
 ghost use Rattle.memory.specs.DenseMemory.{dense as dense_meaning, dense_sound};
 

@@ -1,7 +1,7 @@
 use Rattle.std.proofs.Common.{set, refl, sym, ap, ◌∙◌}
 use Rattle.sensing.specs.declared.State.TheVariants.{Blank}
 use Rattle.memory.specs.RowCells.{row_of}
-use Rattle.memory.proofs.RowCells.{claimed_cell, claimed_already, claimed_now}
+use Rattle.memory.proofs.RowCells.{claimed_cell, claimed_now}
 use Rattle.memory.proofs.ring.Ring.claim.Goals as goal
 
 pub returns-clause-done : goal.returns-clause-done
@@ -14,13 +14,4 @@ returns-clause-done c =
       same = record { channels = refl; window = refl; next = refl };
       row = is;
       cells = claimed_cell r.channels r.window c.args.index r.rows.now rows r.readings.now r.long is;
-    }
-
-pub returns-then-stands-clause-done : goal.returns-then-stands-clause-done
-returns-then-stands-clause-done c =
-    let r = c.args.self.now in
-    record {
-      same = record { channels = refl; window = refl; next = refl };
-      row = claimed_already r.window c.args.index r.rows.now (sym c.if-stands.ensures);
-      cells = λ j by. refl;
     }
