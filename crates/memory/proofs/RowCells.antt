@@ -1,7 +1,7 @@
 -- Two indices of a window stand in two rows, and what a write to one row leaves of the others. Assumes nothing.
 use Rattle.std.proofs.Common.{◌≡◌, ℕ, ◌+◌, ◌-◌, ◌*◌, ◌/◌, ◌%◌, ◌<◌, ◌≤◌, Bool, true, false, cond, eqb, List, ◌++◌, length, get_or, take, drop, set, replicate, Some, sym, refl, ap, ◌∙◌, subst, ⊎_elim, mul-le-mul_right, mod-lt, suc-mul, add-mul, one-mul, div-add-mod', arith}
 use lib.Seq.{paste}
-use Rattle.std.proofs.lemmas.List.{get_or-set_same, get_or-set_other, drop-take, drop-drop, drop_at, get_or-take, get_or-drop, take-append-le, take-take, take_all, length-take-le, length-append, length-set, length-replicate, get_or-replicate}
+use Rattle.std.proofs.lemmas.List.{get_or-set_same, get_or-set_other, drop-take, drop-drop, drop_at, get_or-take, get_or-drop, take-append-le, take-take, take_all, length-take-le, length-append, length-replicate, get_or-replicate}
 use Rattle.std.proofs.lemmas.List.Edits.{take-paste, drop-paste}
 use Rattle.std.proofs.lemmas.Bool.{cases_lt, cases_Bool, cases_eq, cond-true, cond-false, eq-eqb, ne_eqb}
 use Rattle.rules.specs.Sensing.{Cell, blank, mark, is_listened, reading_in}
@@ -125,13 +125,6 @@ module _ (w i : ℕ) (rows rows' : List Row) (r : Row) (long : w < length rows) 
 
   pub row_other : (j : ℕ) → Near w i j → (j ≡ i → ⊥) → row_at w rows' j ≡ row_at w rows j
   row_other j near ne = ap (λ l. row_at w l j) is ∙ get_or-set_other rows _ _ r bare_row (slots_apart w i j near ne)
-
-  pub upto : (next : ℕ) → r.index ≤ next → Upto next rows → Upto next rows'
-  upto next low old k h =
-      ⊎_elim
-      (λ e. omega (arith, ap (λ m. (get_or rows' m bare_row).index) e, ap (λ (x : Row). x.index) row_here))
-      (λ ne. omega (arith, ap (λ l. (get_or l k bare_row).index) is, ap (λ (x : Row). x.index) (get_or-set_other rows _ k r bare_row ne), old k (omega (arith, ap length is, length-set rows (i % (w + 1)) r))))
-      (cases_eq k (i % (w + 1)))
 
 -- a row that was another index's is claimed
 pub claimed_now : (w i : ℕ) (rows : List Row) → eqb (row_at w rows i).index i ≡ false → set rows (i % (w + 1)) (row_of i Blank) ≡ set rows (i % (w + 1)) (claimed i (row_at w rows i))

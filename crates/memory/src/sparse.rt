@@ -1,4 +1,5 @@
-// A memory with a list of records, each in the first place that was free, and what always holds of it.
+// A memory with a list of records, each in the first place that was free, and what always holds of it. It repeats the
+// calls to the ring that a dense memory makes: one type over a trait of places, with its laws, would be longer.
 ghost use Rattle.std.specs.Prelude.{◌≡◌, ℕ, ◌-◌, true};
 ghost use Rattle.rules.specs.Sensing.{Sound};
 ghost use Rattle.memory.specs.EntryPlaces.{apart, live};
