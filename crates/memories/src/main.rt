@@ -6,7 +6,6 @@ use memory::dense::Dense;
 use memory::entries::Entry;
 use memory::rows::Row;
 use memory::sparse::Sparse;
-use memory::{dense, sparse};
 use sensing::{Held, Keeping, Kept, State};
 use std::fmt;
 
@@ -14,6 +13,33 @@ use std::fmt;
 const CHANNELS: u8 = 3;
 
 const WINDOW: u64 = 100;
+
+// A row for each index of the window, and a reading for each sub-channel of a row.
+const ROWS: usize = WINDOW as usize + 1;
+
+const CELLS: usize = ROWS * CHANNELS as usize;
+
+// What a memory is lent, with K places. The rows and the readings hold something already, which a new memory does not see.
+#[derive(Drop)]
+struct Lent<P, const K: usize> {
+    rows: [Row; ROWS],
+    readings: [u32; CELLS],
+    places: [Option<P>; K],
+}
+
+impl<P: Copy, const K: usize> Lent<P, K> {
+    fn new() -> Lent<P, K> {
+        let used = Row {
+            index: 7,
+            state: State::Sent,
+        };
+        Lent {
+            rows: [used; ROWS],
+            readings: [9; CELLS],
+            places: [None; K],
+        }
+    }
+}
 
 // A call on a memory.
 #[derive(Clone, Copy)]
@@ -74,30 +100,22 @@ const STEPS: [Step; 25] = [
     Step::Record(1097, 2, PLAIN, -900),
 ];
 
+// What a memory answers to a call. Where a slide or a mark is done, something is new.
+fn perform<M: Keeping>(m: &mut M, step: Step) -> Result<Kept, Refusal> {
+    match step {
+        Step::Slide(n) => m.slide(n).map(|()| Kept::New),
+        Step::Record(index, resource, bytes, rsrp) => m.keep_record(index, resource, bytes, rsrp),
+        Step::Readings(index, readings) => m.keep_readings(index, &readings),
+        Step::Sent(index) => m.mark_sent(index).map(|()| Kept::New),
+    }
+}
+
+// The number of an answer: 0 for new, 1 for what was held already, or the refusal's.
 fn number(answer: Result<Kept, Refusal>) -> u8 {
     match answer {
         Ok(Kept::New) => 0,
         Ok(Kept::Already) => 1,
         Err(refusal) => refusal.number(),
-    }
-}
-
-fn done(answer: Result<(), Refusal>) -> u8 {
-    match answer {
-        Ok(()) => 0,
-        Err(refusal) => refusal.number(),
-    }
-}
-
-// What a memory answers to a call.
-fn perform<M: Keeping>(m: &mut M, step: Step) -> u8 {
-    match step {
-        Step::Slide(n) => done(m.slide(n)),
-        Step::Record(index, resource, bytes, rsrp) => number(m.keep_record(
-            index, resource, bytes, rsrp,
-        )),
-        Step::Readings(index, readings) => number(m.keep_readings(index, &readings)),
-        Step::Sent(index) => done(m.mark_sent(index)),
     }
 }
 
@@ -108,11 +126,9 @@ fn side_by_side<D: Keeping, S: Keeping>(
 ) -> anyhow::Result<()> {
     let mut alike = true;
     for step in STEPS {
-        let a = perform(dense, step);
-        let b = perform(sparse, step);
-        if a != b && b != 31 {
-            alike = false;
-        }
+        let a = number(perform(dense, step));
+        let b = number(perform(sparse, step));
+        alike = alike && (a == b || b == 31);
         println!(rt; "{a:02} {b:02} {step}")?;
     }
     let word = if alike {
@@ -125,29 +141,21 @@ fn side_by_side<D: Keeping, S: Keeping>(
 }
 
 fn run(rt: &HostRuntime) -> anyhow::Result<()> {
-    let blank = Row {
-        index: 7,
-        state: State::Sent,
-    };
-    let mut dense_rows = [blank; 101];
-    let mut dense_readings = [9u32; 303];
-    let mut dense_places: [Option<Held>; 303] = [None; 303];
-    let mut sparse_rows = [blank; 101];
-    let mut sparse_readings = [9u32; 303];
-    let mut sparse_places: [Option<Entry>; 4] = [None; 4];
+    let mut a = Lent::<Held, CELLS>::new();
+    let mut b = Lent::<Entry, 4>::new();
     let mut d = Dense::new(
         CHANNELS,
         WINDOW,
-        &mut dense_rows,
-        &mut dense_readings,
-        &mut dense_places,
+        &mut a.rows,
+        &mut a.readings,
+        &mut a.places,
     );
     let mut s = Sparse::new(
         CHANNELS,
         WINDOW,
-        &mut sparse_rows,
-        &mut sparse_readings,
-        &mut sparse_places,
+        &mut b.rows,
+        &mut b.readings,
+        &mut b.places,
     );
     side_by_side(rt, &mut d, &mut s)
 }

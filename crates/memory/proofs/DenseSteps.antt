@@ -1,64 +1,102 @@
--- What each write does to a dense memory. Assumes nothing.
-use Rattle.std.proofs.Common.{◌≡◌, ℕ, ◌+◌, ◌*◌, ◌%◌, ◌<◌, ◌≤◌, List, length, set, Some, None, Option, sym, refl, ap, ◌∙◌, subst, ⊎_elim, arith}
+-- What one call does to a dense memory. Assumes nothing.
+use Rattle.std.proofs.Common.{◌≡◌, ℕ, ◌+◌, ◌*◌, ◌%◌, ◌<◌, ◌≤◌, List, length, get_or, set, replicate, Some, None, Option, sym, refl, ap, ◌∙◌, subst, ⊎_elim, mul-le-mul_right, one-mul, arith}
 use Rattle.std.proofs.lemmas.List.{get_or-set_same, get_or-set_other}
 use Rattle.std.proofs.lemmas.Bool.{cases_eq}
-use Rattle.rules.specs.Sensing.{Cell, Added, Changed}
+use Rattle.rules.specs.Sensing.{Cell, Inside, New, Sound, Moved, Added, Changed, held_count}
+use Rattle.rules.proofs.HeldCount.{held_count_le}
 use Rattle.sensing.specs.Memories.{option_held_of, held_of}
 use Rattle.sensing.specs.declared.Held.{Held}
 use Rattle.sensing.specs.declared.State.{State}
-use Rattle.memory.specs.declared.rows.Row.{Row}
-use Rattle.memory.specs.RowCells.{row_at, row_of, cell_at, Near, Written}
-use Rattle.memory.proofs.RowCells.{slots_apart, block_below, row_here, row_other, upto}
-use Rattle.memory.specs.DensePlaces.{meant_by, Owned, Upheld}
-use Rattle.memory.proofs.DenseHeld.{held_same, held_stamped, place_one}
+use Rattle.memory.specs.declared.ring.Ring.{Ring}
+use Rattle.memory.specs.RowCells.{Near}
+use Rattle.memory.specs.Rings.{alone, stamped, place, Same, Slid, Written}
+use Rattle.memory.proofs.RowCells.{slots_apart, block_below}
+use Rattle.memory.proofs.RingSteps.{near, frame, place_same, room_same, written_here, written_other, slid_cells, slid_stamped, slid_past, empty_sound}
+use Rattle.memory.specs.DensePlaces.{meant, held_at, Owned}
+use Rattle.memory.proofs.DenseHeld.{held_same, held_stamped, held_unstamped, place_one, past_unstamped, empty_none}
 
-near : (w next i j : ℕ) → next ≤ i + w → i ≤ next → next ≤ j + w → j ≤ next → Near w i j
-near w next i j a b c d = (omega arith, omega arith)
+-- a dense memory has a place for each record that can be held
+pub room_enough : (r : Ring) (places : List (Option Held)) → held_count (meant r places) ≤ (r.window + 1) * r.channels
+room_enough r places = held_count_le (meant r places)
+
+-- a slide only sets the next index
+pub moves : (to : ℕ) (r r' : Ring) (places : List (Option Held)) → Slid to r r' → Moved (meant r places) to (meant r' places)
+moves to r r' places s =
+    record {
+      frame = frame to r r' s.same _ _ (held_at r places) (held_at r' places) (room_same to r r' s.same);
+      cells = λ i inside low. slid_cells to r r' s i;
+      records = λ i a inside low less. held_same r r' places places i a (slid_stamped to r r' s i) (ap (λ k. get_or places k None) (place_same to r r' s.same i a));
+      fresh = λ i inside past. slid_past to r r' s i past;
+      clear = λ i a inside past less. held_unstamped r' places i a (slid_stamped to r r' s i ∙ past_unstamped r i past);
+    }
 
 -- the row of index i was made its own, and then
-module _ (n w i : ℕ) (rows rows₁ rows₂ : List Row) (readings readings₁ readings₂ : List ℕ) (places places₁ : List (Option Held)) (long : w < length rows₁) (own : Owned n w i rows places rows₁ places₁) where
-  -- another cell is written
-  module _ (s : State) (c : Cell) (same : readings₁ ≡ readings) (done : Written n w i s c rows₁ readings₁ rows₂ readings₂) where
-    pub cell_upheld : Upheld i rows rows₂
-    cell_upheld next low old = upto w i rows₁ rows₂ (row_of i s) long done.row next low (own.upto next low old)
+module _ (i : ℕ) (r r₁ : Ring) (places places₁ : List (Option Held)) (inside : Inside (alone r) i) (own : Owned i r places r₁ places₁) where
+  beside : (j : ℕ) → Inside (alone r) j → Near r₁.window i j
+  beside j in-j = let w = near r i j inside in-j in (omega (arith, w.0, own.same.window), omega (arith, w.1, own.same.window))
 
-    stamp : (j : ℕ) → Near w i j → (row_at w rows₂ j).index ≡ (row_at w rows₁ j).index
-    stamp j by =
+  -- another cell is written
+  module _ (s : State) (c : Cell) (r₂ : Ring) (done : Written i s c r₁ r₂) where
+    pub same_after : Same r.next r r₂
+    same_after = record { channels = done.same.channels ∙ own.same.channels; window = done.same.window ∙ own.same.window; next = done.same.next ∙ own.same.next }
+
+    stamp : (j : ℕ) → Inside (alone r) j → stamped r₂ j ≡ stamped r₁ j
+    stamp j in-j =
         ⊎_elim
-        (λ e. subst (λ k. (row_at w rows₂ k).index ≡ (row_at w rows₁ k).index) (sym e) (ap (λ (x : Row). x.index) (row_here w i rows₁ rows₂ _ long done.row) ∙ sym own.stamped))
-        (λ ne. ap (λ (x : Row). x.index) (row_other w i rows₁ rows₂ _ long done.row j by ne))
+        (λ e. subst (λ k. stamped r₂ k ≡ stamped r₁ k) (sym e) (written_here i s c r₁ r₂ done ∙ sym own.here))
+        (λ ne. written_other i s c r₁ r₂ done j (beside j in-j) ne)
         (cases_eq j i)
 
-    pub cell_changed : (next : ℕ) → next ≤ i + w → i ≤ next → Changed (meant_by n w next rows readings places) i c (meant_by n w next rows₂ readings₂ places₁)
-    cell_changed next low high =
+    pub cell_changed : Changed (meant r places) i c (meant r₂ places₁)
+    cell_changed =
         record {
-          frame = record { channels = refl; window = refl; places = refl; next = refl };
+          frame = frame r.next r r₂ same_after _ _ (held_at r places) (held_at r₂ places₁) (room_same r.next r r₂ same_after);
           here = done.here;
-          others = λ j inside ne.
-              let by = near w next i j low high inside.0 inside.1 in
-              done.others j by ne ∙ own.cells readings₁ j by ∙ ap (λ l. cell_at n w rows l j) same;
-          records = λ j a inside l.
-              let by = near w next i j low high inside.0 inside.1 in
-              held_same n w rows₁ rows₂ places₁ places₁ j a (stamp j by) refl ∙ own.held j a by l;
+          others = λ j in-j ne. done.others j (beside j in-j) ne ∙ own.cells j (near r i j inside in-j);
+          records = λ j a in-j l.
+              held_same r₁ r₂ places₁ places₁ j a (stamp j in-j) (ap (λ k. get_or places₁ k None) (place_same r₁.next r₁ r₂ done.same j a))
+              ∙ own.held j a (near r i j inside in-j) l;
         }
 
   -- a record is written
-  module _ (a : ℕ) (h : Held) (below : a < n) (deep : (w + 1) * n ≤ length places₁) (same : readings₁ ≡ readings) where
-    pub record_added : (next : ℕ) → next ≤ i + w → i ≤ next → Added (meant_by n w next rows readings places) i a (held_of h) (meant_by n w next rows₁ readings₁ (set places₁ (i % (w + 1) * n + a) (Some h)))
-    record_added next low high =
-        let at = i % (w + 1) * n + a in
+  module _ (a : ℕ) (h : Held) (below : a < r.channels) (deep : (r.window + 1) * r.channels ≤ length places₁) where
+    pub record_added : Added (meant r places) i a (held_of h) (meant r₁ (set places₁ (place r₁ i a) (Some h)))
+    record_added =
+        let at = place r₁ i a in
+        let less : a < r₁.channels = omega (arith, own.same.channels) in
+        let fits : (r₁.window + 1) * r₁.channels ≤ length places₁ = omega (arith, room_same r.next r r₁ own.same) in
         record {
-          frame = record { channels = refl; window = refl; places = refl; next = refl };
-          cells = λ j inside. own.cells readings₁ j (near w next i j low high inside.0 inside.1) ∙ ap (λ l. cell_at n w rows l j) same;
+          frame = frame r.next r r₁ own.same _ _ (held_at r places) (held_at r₁ (set places₁ at (Some h))) (room_same r.next r r₁ own.same);
+          cells = λ j in-j. own.cells j (near r i j inside in-j);
           here =
-              held_stamped n w rows₁ (set places₁ at (Some h)) i a own.stamped
-              ∙ ap option_held_of (get_or-set_same places₁ at (Some h) None (omega (arith, block_below w n i (length places₁) deep)));
-          others = λ j b inside l ne.
-              let by = near w next i j low high inside.0 inside.1 in
-              held_same n w rows₁ rows₁ places₁ (set places₁ at (Some h)) j b refl
-              (get_or-set_other places₁ at (j % (w + 1) * n + b) (Some h) None
+              held_stamped r₁ (set places₁ at (Some h)) i a own.here
+              ∙ ap option_held_of (get_or-set_same places₁ at (Some h) None (omega (arith, block_below r₁.window r₁.channels i (length places₁) fits)));
+          others = λ j b in-j l ne.
+              held_same r₁ r₁ places₁ (set places₁ at (Some h)) j b refl
+              (get_or-set_other places₁ at (place r₁ j b) (Some h) None
               (λ e.
-              let one = place_one n (j % (w + 1)) (i % (w + 1)) a b below l e in
-              ⊎_elim (λ p. ne (p, one.1)) (λ p. slots_apart w i j by p one.0) (cases_eq j i)))
-              ∙ own.held j b by l;
+              let one = place_one r₁.channels (j % (r₁.window + 1)) (i % (r₁.window + 1)) a b less (omega (arith, own.same.channels)) e in
+              ⊎_elim (λ p. ne (p, one.1)) (λ p. slots_apart r₁.window i j (beside j in-j) p one.0) (cases_eq j i)))
+              ∙ own.held j b (near r i j inside in-j) l;
         }
+
+-- a new memory
+module _ (n w k : ℕ) (r : Ring) (places : List (Option Held)) (ring : New n w 0 (alone r)) (none : places ≡ replicate k None) where
+  pub new_room : (r.window + 1) * r.channels ≡ (w + 1) * n
+  new_room = ap (λ x. (x + 1) * r.channels) ring.window ∙ ap (λ x. (w + 1) * x) ring.channels
+
+  pub is_new : New n w ((w + 1) * n) (meant r places)
+  is_new =
+      record {
+        channels = ring.channels;
+        window = ring.window;
+        next = ring.next;
+        places = new_room;
+        nothing = record { cells = ring.nothing.cells; records = λ i a in-i l. empty_none r k places i a none };
+      }
+
+  pub new_sound : 1 ≤ n → n ≤ 20 → Sound (meant r places)
+  new_sound some few =
+      let one : 1 ≤ r.window + 1 = omega arith in
+      let many : 1 ≤ r.channels = omega (arith, ring.channels) in
+      empty_sound (meant r places) is_new.nothing many (omega (arith, ring.channels)) r.short (omega (arith, ring.window, ring.next)) (omega (arith, mul-le-mul_right r.channels one, one-mul r.channels)) (room_enough r places)

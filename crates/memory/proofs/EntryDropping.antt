@@ -1,5 +1,6 @@
 -- The entries from an index on, and no entries. Assumes nothing.
-use Rattle.std.proofs.Common.{◌≡◌, ℕ, suc, ◌<◌, ◌≤◌, Bool, true, false, cond, not, ◌&&◌, ltb, leb, List, [], ◌∷◌, map, length, get_or, is_some, Some, None, Option, sym, refl, ap, ◌∙◌, ⊎_elim, arith}
+use Rattle.std.proofs.Common.{◌≡◌, ℕ, suc, ◌<◌, ◌≤◌, Bool, true, false, cond, not, ◌&&◌, ltb, leb, List, [], ◌∷◌, map, length, get_or, replicate, is_some, Some, None, Option, sym, refl, ap, ◌∙◌, ⊎_elim, arith}
+use Rattle.std.proofs.lemmas.List.{length-replicate, get_or-replicate}
 use Rattle.std.proofs.lemmas.Bool.{cases_Bool, and_parts, and_from, ltb-false, leb-true, le-leb, cond-true, cond-false}
 use Rattle.sensing.specs.declared.Held.{Held}
 use Rattle.memory.specs.declared.entries.Entry.{Entry}
@@ -73,13 +74,16 @@ module _ (low : ℕ) where
       }
 
 -- nothing in any place
-module _ where
-  bare_tail : (p : Option Entry) (ps : List (Option Entry)) → ((k : ℕ) → k < length (p ∷ ps) → get_or (p ∷ ps) k None ≡ None) → (k : ℕ) → k < length ps → get_or ps k None ≡ None
-  bare_tail p ps h k l = h (suc k) (omega arith)
+bare_tail : (p : Option Entry) (ps : List (Option Entry)) → ((k : ℕ) → k < length (p ∷ ps) → get_or (p ∷ ps) k None ≡ None) → (k : ℕ) → k < length ps → get_or ps k None ≡ None
+bare_tail p ps h k l = h (suc k) (omega arith)
 
-  pub emptied : (ps : List (Option Entry)) → ((k : ℕ) → k < length ps → get_or ps k None ≡ None) → Emptied ps
-  emptied [] h = record { found = λ i a. refl; keys = refl; lives = λ n low next. refl; count = refl }
-  emptied (None ∷ ps) h =
-      let w = emptied ps (bare_tail None ps h) in
-      record { found = w.found; keys = w.keys; lives = w.lives; count = w.count }
-  emptied (Some e ∷ ps) h = absurd (some_none (h 0 (omega arith)))
+emptied : (ps : List (Option Entry)) → ((k : ℕ) → k < length ps → get_or ps k None ≡ None) → Emptied ps
+emptied [] h = record { found = λ i a. refl; keys = refl; lives = λ n low next. refl; count = refl }
+emptied (None ∷ ps) h =
+    let w = emptied ps (bare_tail None ps h) in
+    record { found = w.found; keys = w.keys; lives = w.lives; count = w.count }
+emptied (Some e ∷ ps) h = absurd (some_none (h 0 (omega arith)))
+
+pub emptied_from : (n : ℕ) (ps : List (Option Entry)) → ps ≡ replicate n None → Emptied ps
+emptied_from n ps is =
+    emptied ps (λ k h. ap (λ l. get_or l k None) is ∙ get_or-replicate n k None None (omega (arith, ap length is, length-replicate {A = Option Entry} n None)))

@@ -2,9 +2,11 @@
 use Rattle.std.proofs.Common.{◌≡◌, ℕ, zero, suc, ◌+◌, ◌<◌, ◌≤◌, true, false, cond, not, List, [], ◌∷◌, length, get_or, set, is_some, Some, None, Option, sym, refl, ap, ◌∙◌, ⊎_elim, arith}
 use Rattle.std.proofs.lemmas.List.{length-set}
 use Rattle.std.proofs.lemmas.Bool.{cases_Bool, and_parts, and_from, eq-eqb, eqb-true, cond-true, cond-false, true≢false}
+use Rattle.std.specs.Option.{MatchOption}
+use Rattle.std.specs.List.{AllWithin, HoldsAt}
 use Rattle.sensing.specs.declared.Held.{Held}
 use Rattle.memory.specs.declared.entries.Entry.{Entry}
-use Rattle.memory.specs.EntryPlaces.{of, find, apart, within, live, used, Put}
+use Rattle.memory.specs.EntryPlaces.{of, find, apart, within, live, used, Free, Put}
 
 pub some_none : {A : Type 0} {x : A} → Some x ≡ None → ⊥
 some_none e = let z : ◌≡◌ {A = ℕ} 0 1 = cc in omega arith
@@ -42,6 +44,24 @@ first_some (Some x) ps i a h e =
 pub first_none : (p : Option Entry) (ps : List (Option Entry)) (i a : ℕ) → None ≡ find (p ∷ []) i a → find (p ∷ ps) i a ≡ find ps i a
 first_none None ps i a e = refl
 first_none (Some x) ps i a e = cond-false _ (Some x.held) (find ps i a) (not_found x [] i a (sym e)).0
+
+-- what is found is what the first place holds that holds any of it
+module _ (i a : ℕ) where
+  abbrev Misses : List (Option Entry) → ℕ → Type 0
+  Misses ps n = (k : ℕ) → k < n → find (get_or ps k None ∷ []) i a ≡ None
+
+  find_none : (ps : List (Option Entry)) → Misses ps (length ps) → find ps i a ≡ None
+  find_none [] h = refl
+  find_none (p ∷ ps) h = first_none p ps i a (sym (h 0 (omega arith))) ∙ find_none ps (λ k l. h (suc k) (omega arith))
+
+  find_some : (ps : List (Option Entry)) (x : Held) (n : ℕ) → n < length ps → find (get_or ps n None ∷ []) i a ≡ Some x → Misses ps n → find ps i a ≡ Some x
+  find_some [] x n less e h = absurd (omega arith)
+  find_some (p ∷ ps) x zero less e h = sym (first_some p ps i a x (sym e))
+  find_some (p ∷ ps) x (suc n) less e h = first_none p ps i a (sym (h 0 (omega arith))) ∙ find_some ps x n (omega arith) e (λ k l. h (suc k) (omega arith))
+
+  pub found : (ps : List (Option Entry)) (r : Option Held) → (r ≡ None → Misses ps (length ps)) → ((x : Held) → r ≡ Some x → (n : ℕ) × (n < length ps) × (find (get_or ps n None ∷ []) i a ≡ Some x) × Misses ps n) → r ≡ find ps i a
+  found ps None h g = sym (find_none ps (h refl))
+  found ps (Some x) h g = let w = g x refl in sym (find_some ps x w.0 w.1 w.2 w.3)
 
 module _ (e : Entry) where
   put_here : (ps : List (Option Entry)) (k : ℕ) → k < length ps → find ps e.index e.resource ≡ None → find (set ps k (Some e)) e.index e.resource ≡ Some e.held
@@ -99,6 +119,11 @@ pub used_full : (ps : List (Option Entry)) → ((k : ℕ) → k < length ps → 
 used_full [] h = refl
 used_full (None ∷ ps) h = absurd (true≢false (sym (h 0 (omega arith))))
 used_full (Some x ∷ ps) h = omega (arith, used_full ps (λ k l. h (suc k) (omega arith)))
+
+-- the first place that holds nothing, or there is none
+pub first_free : (ps : List (Option Entry)) (r : Option ℕ) → MatchOption r (AllWithin (λ p. is_some p ≡ true) ps 0 (length ps)) (λ i. (i < length ps) × HoldsAt (λ p. p ≡ None) ps i × AllWithin (λ p. is_some p ≡ true) ps 0 i) → MatchOption r (used ps ≡ length ps) (Free ps)
+first_free ps None h = used_full ps (λ k l. h k None (omega arith) l)
+first_free ps (Some i) h = record { inside = h.0; free = h.1 None; before = λ j l. h.2 j None (omega arith) l }
 
 pub put_at : (ps : List (Option Entry)) (k : ℕ) (e : Entry) → k < length ps → get_or ps k None ≡ None → Put ps e (set ps k (Some e))
 put_at ps k e less free =

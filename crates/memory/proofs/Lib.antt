@@ -1,11 +1,11 @@
 pub mod RowCells
-pub mod DenseHeld
-pub mod DenseCalls
-pub mod DenseSteps
+pub mod RingSteps
 pub mod EntryPutting
 pub mod EntryLiving
 pub mod EntryCounted
 pub mod EntryDropping
-pub mod SparseAsked
-pub mod SparseSelf
+pub mod Asked
 pub mod SparseSteps
+pub mod SparseSelf
+pub mod DenseHeld
+pub mod DenseSteps

@@ -1,15 +1,15 @@
 -- Two indices of a window stand in two rows, and what a write to one row leaves of the others. Assumes nothing.
-use Rattle.std.proofs.Common.{◌≡◌, ℕ, ◌+◌, ◌-◌, ◌*◌, ◌/◌, ◌%◌, ◌<◌, ◌≤◌, Bool, true, false, cond, eqb, List, ◌++◌, length, get_or, take, drop, set, Some, sym, refl, ap, ◌∙◌, subst, ⊎_elim, mul-le-mul_right, mod-lt, suc-mul, add-mul, one-mul, div-add-mod', arith}
+use Rattle.std.proofs.Common.{◌≡◌, ℕ, ◌+◌, ◌-◌, ◌*◌, ◌/◌, ◌%◌, ◌<◌, ◌≤◌, Bool, true, false, cond, eqb, List, ◌++◌, length, get_or, take, drop, set, replicate, Some, sym, refl, ap, ◌∙◌, subst, ⊎_elim, mul-le-mul_right, mod-lt, suc-mul, add-mul, one-mul, div-add-mod', arith}
 use lib.Seq.{paste}
-use Rattle.std.proofs.lemmas.List.{get_or-set_same, get_or-set_other, drop-take, drop-drop, drop_at, get_or-take, get_or-drop, take-append-le, take-take, take_all, length-take-le, length-append, length-set, set-get_or}
+use Rattle.std.proofs.lemmas.List.{get_or-set_same, get_or-set_other, drop-take, drop-drop, drop_at, get_or-take, get_or-drop, take-append-le, take-take, take_all, length-take-le, length-append, length-replicate, get_or-replicate}
 use Rattle.std.proofs.lemmas.List.Edits.{take-paste, drop-paste}
 use Rattle.std.proofs.lemmas.Bool.{cases_lt, cases_Bool, cases_eq, cond-true, cond-false, eq-eqb, ne_eqb}
-use Rattle.rules.specs.Sensing.{Cell, blank, listened, mark, is_listened, reading_in}
+use Rattle.rules.specs.Sensing.{Cell, blank, mark, is_listened, reading_in}
 use Rattle.sensing.specs.Memories.{mark_of}
 use Rattle.sensing.specs.declared.State.{State}
 use Rattle.sensing.specs.declared.State.TheVariants.{Blank, Listened, Sent}
 use Rattle.memory.specs.declared.rows.Row.{Row}
-use Rattle.memory.specs.RowCells.{bare_row, row_of, row_at, readings_of, cell_of, cell_at, claimed, Upto, Cleared, Near, Claimed, Written, Copied}
+use Rattle.memory.specs.RowCells.{bare_row, row_of, row_at, readings_of, cell_of, cell_at, claimed, Upto, Cleared, Near}
 
 -- two products of m that lie less than m apart are one
 apart : (m p q d : ℕ) → p * m ≡ q * m + d → 0 < d → d < m → ⊥
@@ -88,10 +88,19 @@ in_claimed i r rs =
     (cases_Bool (eqb r.index i))
 
 -- the state of a cell is that of its row, and its readings stand in place
-pub mark_of_cell : (s : State) (rs : List ℕ) → mark (cell_of s rs) ≡ mark_of s
+mark_of_cell : (s : State) (rs : List ℕ) → mark (cell_of s rs) ≡ mark_of s
 mark_of_cell Blank rs = refl
 mark_of_cell Listened rs = refl
 mark_of_cell Sent rs = refl
+
+-- the cell of an index whose row is stamped with it, or is not
+pub stood_cell : (n w : ℕ) (rows : List Row) (readings : List ℕ) (i : ℕ) → eqb (row_at w rows i).index i ≡ true → mark (cell_at n w rows readings i) ≡ mark_of (row_at w rows i).state
+unfolding cell_at
+stood_cell n w rows readings i e = ap mark (cond-true _ _ _ e) ∙ mark_of_cell (row_at w rows i).state _
+
+pub blank_cell : (n w : ℕ) (rows : List Row) (readings : List ℕ) (i : ℕ) → eqb (row_at w rows i).index i ≡ false → cell_at n w rows readings i ≡ blank
+unfolding cell_at
+blank_cell n w rows readings i e = cond-false _ _ _ e
 
 reading_of : (s : State) (rs : List ℕ) (a : ℕ) → is_listened ≡ mark (cell_of s rs) → Some (get_or rs a 0) ≡ reading_in (cell_of s rs) a
 reading_of Blank rs a e = let z : ◌≡◌ {A = ℕ} 0 1 = cc in absurd (omega arith)
@@ -117,65 +126,43 @@ module _ (w i : ℕ) (rows rows' : List Row) (r : Row) (long : w < length rows) 
   pub row_other : (j : ℕ) → Near w i j → (j ≡ i → ⊥) → row_at w rows' j ≡ row_at w rows j
   row_other j near ne = ap (λ l. row_at w l j) is ∙ get_or-set_other rows _ _ r bare_row (slots_apart w i j near ne)
 
-  pub upto : (next : ℕ) → r.index ≤ next → Upto next rows → Upto next rows'
-  upto next low old k h =
-      ⊎_elim
-      (λ e. omega (arith, ap (λ m. (get_or rows' m bare_row).index) e, ap (λ (x : Row). x.index) row_here))
-      (λ ne. omega (arith, ap (λ l. (get_or l k bare_row).index) is, ap (λ (x : Row). x.index) (get_or-set_other rows _ k r bare_row ne), old k (omega (arith, ap length is, length-set rows (i % (w + 1)) r))))
-      (cases_eq k (i % (w + 1)))
-
--- what each function of rows does
-pub claimed_already : (w i : ℕ) (rows : List Row) → eqb (row_at w rows i).index i ≡ true → rows ≡ set rows (i % (w + 1)) (claimed i (row_at w rows i))
-claimed_already w i rows e = sym (ap (set rows (i % (w + 1))) (cond-true _ (row_at w rows i) (row_of i Blank) e) ∙ set-get_or rows (i % (w + 1)) bare_row)
-
+-- a row that was another index's is claimed
 pub claimed_now : (w i : ℕ) (rows : List Row) → eqb (row_at w rows i).index i ≡ false → set rows (i % (w + 1)) (row_of i Blank) ≡ set rows (i % (w + 1)) (claimed i (row_at w rows i))
 claimed_now w i rows e = sym (ap (set rows (i % (w + 1))) (cond-false _ (row_at w rows i) (row_of i Blank) e))
 
-pub claims : (w i : ℕ) (rows rows' : List Row) → w < length rows → rows' ≡ set rows (i % (w + 1)) (claimed i (row_at w rows i)) → Claimed w i rows rows'
-unfolding cell_at
-claims w i rows rows' long is =
-    let r = claimed i (row_at w rows i) in
-    record {
-      row = is;
-      cells = λ n readings j near.
-          ⊎_elim
-          (λ e.
-          subst
-          (λ k. cell_at n w rows' readings k ≡ cell_at n w rows readings k)
-          (sym e)
-          (ap (λ (x : Row). cell_in i x (readings_of n readings (i % (w + 1)))) (row_here w i rows rows' r long is) ∙ in_claimed i (row_at w rows i) (readings_of n readings (i % (w + 1)))))
-          (λ ne. ap (λ (x : Row). cell_in j x (readings_of n readings (j % (w + 1)))) (row_other w i rows rows' r long is j near ne))
-          (cases_eq j i);
-    }
+-- a row that is claimed, and one that is given a state
+module _ (n w i : ℕ) (rows rows' : List Row) (readings : List ℕ) (long : w < length rows) where
+  pub claimed_cell : rows' ≡ set rows (i % (w + 1)) (claimed i (row_at w rows i)) → (j : ℕ) → Near w i j → cell_at n w rows' readings j ≡ cell_at n w rows readings j
+  unfolding cell_at
+  claimed_cell is j near =
+      let r = claimed i (row_at w rows i) in
+      ⊎_elim
+      (λ e.
+      subst
+      (λ k. cell_at n w rows' readings k ≡ cell_at n w rows readings k)
+      (sym e)
+      (ap (λ (x : Row). cell_in i x (readings_of n readings (i % (w + 1)))) (row_here w i rows rows' r long is) ∙ in_claimed i (row_at w rows i) (readings_of n readings (i % (w + 1)))))
+      (λ ne. ap (λ (x : Row). cell_in j x (readings_of n readings (j % (w + 1)))) (row_other w i rows rows' r long is j near ne))
+      (cases_eq j i)
 
-pub stamps : (n w i : ℕ) (s : State) (rows rows' : List Row) (readings : List ℕ) → w < length rows → rows' ≡ set rows (i % (w + 1)) (row_of i s) → Written n w i s (cell_of s (readings_of n readings (i % (w + 1)))) rows readings rows' readings
-unfolding cell_at
-stamps n w i s rows rows' readings long is =
-    record {
-      row = is;
-      here = ap (λ (x : Row). cell_in i x (readings_of n readings (i % (w + 1)))) (row_here w i rows rows' _ long is) ∙ in_stamped i s _;
-      others = λ j near ne. ap (λ (x : Row). cell_in j x (readings_of n readings (j % (w + 1)))) (row_other w i rows rows' _ long is j near ne);
-    }
+  pub stamped_cell : (s : State) → rows' ≡ set rows (i % (w + 1)) (row_of i s) → cell_at n w rows' readings i ≡ cell_of s (readings_of n readings (i % (w + 1)))
+  unfolding cell_at
+  stamped_cell s is = ap (λ (x : Row). cell_in i x (readings_of n readings (i % (w + 1)))) (row_here w i rows rows' _ long is) ∙ in_stamped i s _
 
-pub copies : (n w i : ℕ) (new readings readings' : List ℕ) → length new ≡ n → (w + 1) * n ≤ length readings → readings' ≡ paste readings (i % (w + 1) * n) new n → Copied n w i new readings readings'
-unfolding cell_at
-copies n w i new readings readings' many wide is =
-    let s = i % (w + 1) in
-    let room : s * n + n ≤ length readings = block_below w n i _ wide in
-    record {
-      here = ap (λ l. readings_of n l s) is ∙ block_here readings new n s many room;
-      others = λ rows j near ne.
-          ap (cell_in j (row_at w rows j)) (ap (λ l. readings_of n l (j % (w + 1))) is ∙ block_other readings new n s many room (j % (w + 1)) (slots_apart w i j near ne));
-    }
+  pub other_cell : (s : State) → rows' ≡ set rows (i % (w + 1)) (row_of i s) → (j : ℕ) → Near w i j → (j ≡ i → ⊥) → cell_at n w rows' readings j ≡ cell_at n w rows readings j
+  unfolding cell_at
+  other_cell s is j near ne = ap (λ (x : Row). cell_in j x (readings_of n readings (j % (w + 1)))) (row_other w i rows rows' _ long is j near ne)
 
--- readings that are copied, and then a row that is listened
-pub listens : (n w i : ℕ) (new : List ℕ) (rows rows' : List Row) (readings readings' : List ℕ) → Copied n w i new readings readings' → Written n w i Listened (listened (readings_of n readings' (i % (w + 1)))) rows readings' rows' readings' → Written n w i Listened (listened new) rows readings rows' readings'
-listens n w i new rows rows' readings readings' copied done =
-    record {
-      row = done.row;
-      here = done.here ∙ ap listened copied.here;
-      others = λ j near ne. done.others j near ne ∙ copied.others rows j near ne;
-    }
+-- readings that are copied to the place of a row
+module _ (n w i : ℕ) (new readings readings' : List ℕ) (many : length new ≡ n) (wide : (w + 1) * n ≤ length readings) (is : readings' ≡ paste readings (i % (w + 1) * n) new n) where
+  pub copied_here : readings_of n readings' (i % (w + 1)) ≡ new
+  copied_here = ap (λ l. readings_of n l (i % (w + 1))) is ∙ block_here readings new n (i % (w + 1)) many (block_below w n i _ wide)
+
+  pub copied_other : (rows : List Row) (j : ℕ) → Near w i j → (j ≡ i → ⊥) → cell_at n w rows readings' j ≡ cell_at n w rows readings j
+  unfolding cell_at
+  copied_other rows j near ne =
+      ap (cell_in j (row_at w rows j))
+      (ap (λ l. readings_of n l (j % (w + 1))) is ∙ block_other readings new n (i % (w + 1)) many (block_below w n i _ wide) (j % (w + 1)) (slots_apart w i j near ne))
 
 -- no index past next has anything, and where every row is as at the start no index has
 pub past_blank : (n w next : ℕ) (rows : List Row) (readings : List ℕ) (i : ℕ) → w < length rows → Upto next rows → next < i → cell_at n w rows readings i ≡ blank
@@ -190,5 +177,6 @@ cleared_blank n w rows readings i long clear =
     ap (λ (x : Row). cell_in i x (readings_of n readings (i % (w + 1)))) (clear (i % (w + 1)) (slot_below w i (length rows) long))
     ∙ ⊎_elim (λ e. cond-true _ _ _ e) (λ e. cond-false _ _ _ e) (cases_Bool (eqb 0 i))
 
-pub cleared_upto : (next : ℕ) (rows : List Row) → Cleared rows → Upto next rows
-cleared_upto next rows clear k h = omega (arith, ap (λ (x : Row). x.index) (clear k h))
+pub cleared_from : (n : ℕ) (rows : List Row) → rows ≡ replicate n bare_row → Cleared rows
+cleared_from n rows is k h =
+    ap (λ l. get_or l k bare_row) is ∙ get_or-replicate n k bare_row bare_row (omega (arith, ap length is, length-replicate n bare_row))

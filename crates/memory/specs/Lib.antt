@@ -1,5 +1,6 @@
 pub mod RowCells
-pub mod DenseFits
+pub mod Fits
+pub mod Rings
 pub mod DensePlaces
 pub mod DenseMemory
 pub mod EntryPlaces

@@ -1,5 +1,5 @@
 -- Rows of a ring, each stamped with the index that it is for, and the readings beside them. Assumes nothing.
-use Rattle.std.specs.Prelude.{◌≡◌, ℕ, ◌+◌, ◌*◌, ◌%◌, ◌<◌, ◌≤◌, cond, List, length, get_or, take, drop, ◌==◌, ◌≢◌, slice_index_or, slice_set}
+use Rattle.std.specs.Prelude.{◌≡◌, ℕ, ◌+◌, ◌*◌, ◌%◌, ◌<◌, ◌≤◌, cond, List, length, get_or, take, drop, ◌==◌, slice_index_or}
 use Rattle.rules.specs.Sensing.{Cell, blank, listened, sent}
 use Rattle.sensing.specs.declared.State.{State}
 use Rattle.sensing.specs.declared.State.TheVariants.{Blank, Listened, Sent}
@@ -45,19 +45,3 @@ Near w i j = (i ≤ j + w) × (j ≤ i + w)
 -- the row, made that of the index
 abbrev pub claimed : ℕ → Row → Row
 claimed i r = cond (r.index == i) r (row_of i Blank)
-
--- the row of index i is made its own, and no cell near it changes
-pub record Claimed (w i : ℕ) (rows rows' : List Row) : Type 0 where
-  pub row : rows' ≡ slice_set rows (i % (w + 1)) (claimed i (row_at w rows i))
-  pub cells : (n : ℕ) (readings : List ℕ) (j : ℕ) → Near w i j → cell_at n w rows' readings j ≡ cell_at n w rows readings j
-
--- the row of index i is stamped and has the state s, its cell is c, and no other cell near it changes
-pub record Written (n w i : ℕ) (s : State) (c : Cell) (rows : List Row) (readings : List ℕ) (rows' : List Row) (readings' : List ℕ) : Type 0 where
-  pub row : rows' ≡ slice_set rows (i % (w + 1)) (row_of i s)
-  pub here : cell_at n w rows' readings' i ≡ c
-  pub others : (j : ℕ) → Near w i j → (j ≢ i) → cell_at n w rows' readings' j ≡ cell_at n w rows readings j
-
--- the n readings of index i are new ones, and no other cell near it changes by that
-pub record Copied (n w i : ℕ) (new readings readings' : List ℕ) : Type 0 where
-  pub here : readings_of n readings' (i % (w + 1)) ≡ new
-  pub others : (rows : List Row) (j : ℕ) → Near w i j → (j ≢ i) → cell_at n w rows readings' j ≡ cell_at n w rows readings j

@@ -5,7 +5,7 @@ use Rattle.memory.specs.SparseParts.{meant}
 use Rattle.memory.specs.declared.sparse.Sparse.{Sparse}
 
 abbrev pub sparse : Sparse → Meaning
-sparse s = meant s.channels s.window s.next s.store.rows.now s.store.readings.now s.store.places.now
+sparse s = meant s.ring s.places.now
 
 pub sparse_sound : (s : Sparse) → Sound (sparse s)
 sparse_sound s = sound_from (sparse s) s.sound

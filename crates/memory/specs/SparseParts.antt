@@ -1,33 +1,16 @@
--- What rows, readings and places hold together. Assumes nothing.
-use Rattle.std.specs.Prelude.{ℕ, ◌+◌, ◌*◌, ◌≤◌, List, length, Option}
+-- What a ring and a list of entries hold together. Assumes nothing.
+use Rattle.std.specs.Prelude.{ℕ, List, length, Option}
 use Rattle.rules.specs.Sensing.{Meaning, Held as Meant}
 use Rattle.sensing.specs.Memories.{option_held_of}
-use Rattle.memory.specs.RowCells.{cell_at}
-use Rattle.memory.specs.declared.rows.Row.{Row}
-use Rattle.memory.specs.EntryPlaces.{find}
+use Rattle.memory.specs.declared.ring.Ring.{Ring}
 use Rattle.memory.specs.declared.entries.Entry.{Entry}
+use Rattle.memory.specs.EntryPlaces.{find}
+use Rattle.memory.specs.Rings.{over}
 
 -- the record at a resource of an index
 unfoldable pub held_at : List (Option Entry) → ℕ → ℕ → Option Meant
 held_at ps i a = option_held_of (find ps i a)
 
--- a memory by its numbers and its slices
-abbrev pub meant : ℕ → ℕ → ℕ → List Row → List ℕ → List (Option Entry) → Meaning
-meant n w next rows readings ps =
-    record {
-      channels = n;
-      window = w;
-      next = next;
-      places = length ps;
-      cell = cell_at n w rows readings;
-      held = held_at ps;
-    }
-
--- a memory can be made over slices of these lengths
-pub record Fitting (n w rows readings places : ℕ) : Type 0 where
-  pub some : 1 ≤ n
-  pub few : n ≤ 20
-  pub short : w ≤ 1000
-  pub long : w + 1 ≤ rows
-  pub wide : (w + 1) * n ≤ readings
-  pub deep : 1 ≤ places
+-- a memory by its ring and its places
+abbrev pub meant : Ring → List (Option Entry) → Meaning
+meant r ps = over r (length ps) (held_at ps)

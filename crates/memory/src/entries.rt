@@ -1,6 +1,6 @@
 // Records in a plain list of places: each place holds one record with the index and the resource where it was heard, or nothing.
 ghost use Rattle.std.specs.Prelude.{◌≡◌, ◌<◌, [], ◌∷◌, length, None, MatchOption, slice_index_or};
-ghost use Rattle.memory.specs.EntryPlaces.{find as find_in, used, kept_from, Free, Put, Dropped, Emptied};
+ghost use Rattle.memory.specs.EntryPlaces.{find as find_in, used, kept_from, Free, Put, Dropped};
 
 use sensing::Held;
 
@@ -25,24 +25,16 @@ fn held_at(place: Option<Entry>, index: u64, resource: u8) -> Option<Held>
 pub(crate) fn find(places: &[Option<Entry>], index: u64, resource: u8) -> Option<Held>
     ensures { result ≡ find_in places.now index resource }
 {
-    for place in places {
-        if let Some(held) = held_at(*place, index, resource) {
-            return Some(held);
-        }
-    }
-    None
+    places
+        .iter()
+        .find_map(|place| held_at(*place, index, resource))
 }
 
 // The first place that holds nothing.
 pub(crate) fn free_place(places: &[Option<Entry>]) -> Option<usize>
     ensures { MatchOption result (used places.now ≡ length places.now) (Free places.now) }
 {
-    for (k, place) in places.iter().enumerate() {
-        if place.is_none() {
-            return Some(k);
-        }
-    }
-    None
+    places.iter().position(|place| place.is_none())
 }
 
 // Puts an entry into a place that holds nothing, as `free_place` gives one.
@@ -70,14 +62,5 @@ pub(crate) fn drop_below(places: &mut [Option<Entry>], low: u64)
 {
     for place in places.iter_mut() {
         empty_below(place, low);
-    }
-}
-
-// Empties every place.
-pub(crate) fn clear(places: &mut [Option<Entry>])
-    ensures { Emptied places.new }
-{
-    for p in places.iter_mut() {
-        *p = None;
     }
 }

@@ -3,5 +3,6 @@
 
 pub mod dense;
 pub mod entries;
+mod ring;
 pub mod rows;
 pub mod sparse;

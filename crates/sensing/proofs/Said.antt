@@ -1,5 +1,5 @@
 -- What a memory's answers say of its meaning. Assumes nothing.
-use Rattle.std.proofs.Common.{◌≡◌, ℕ, ◌+◌, ◌-◌, ◌<◌, true, false, cond, not, ltb, is_some, Some, None, Ok, Err, Option, sym, refl, ap, ◌∙◌, arith}
+use Rattle.std.proofs.Common.{◌≡◌, ℕ, ◌<◌, true, false, cond, not, ltb, is_some, Some, None, Ok, Err, Option, sym, refl, ap, ◌∙◌, arith}
 use Rattle.std.proofs.lemmas.Bool.{and_parts, and_from, lt-ltb, not-true, true≢false}
 use Rattle.rules.specs.Sensing.{Meaning, Cell, blank, listened, sent, mark, Mark, is_blank, is_listened, is_sent, Held as Meant, Inside, inside, asked_mark, asked_record, index_questions, resource_questions, bare, Nothing, sent?}
 use Rattle.rules.proofs.Answers.{answer_ok, from_inside, all_from}
@@ -68,16 +68,8 @@ from_bare m i t a h =
     held_none _ (not-true _ (all_at (λ a. not (is_some (m.held i a))) m.channels (and_parts (inside m i) _ t).1 a h))
 
 -- nothing is held where every index of the window is blank and without records
-pub nothing_from : (m : Meaning) (low : ℕ) → low + m.window ≡ m.next → ((j : ℕ) → j < m.window + 1 → (m.cell (low + j) ≡ blank) × (bare m (low + j) ≡ true)) → Nothing m
-nothing_from m low e h =
-    record {
-      cells = λ i w.
-          let back : low + (i - low) ≡ i = omega arith in
-          ap m.cell (sym back) ∙ (h (i - low) (omega arith)).0;
-      records = λ i a w l.
-          let back : low + (i - low) ≡ i = omega arith in
-          ap (λ k. m.held k a) (sym back) ∙ from_bare m (low + (i - low)) (h (i - low) (omega arith)).1 a l;
-    }
+pub nothing_from : (m : Meaning) → ((i : ℕ) → Inside m i → (m.cell i ≡ blank) × (bare m i ≡ true)) → Nothing m
+nothing_from m h = record { cells = λ i w. (h i w).0; records = λ i a w l. from_bare m i (h i w).1 a l }
 
 -- a state that is Sent, or is not, says so of the cell
 pub sent_is : (c : Cell) (s : State) → mark_of s ≡ mark c → s ≡ Sent → sent? c ≡ true

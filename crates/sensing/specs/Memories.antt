@@ -1,5 +1,5 @@
 -- What the types of a sensing memory's calls mean. Assumes nothing.
-use Rattle.std.specs.Prelude.{◌≡◌, ℕ, ◌<◌, Bool, true, false, not, List, length, ℤ, Some, None, Ok, Err, Option, Result}
+use Rattle.std.specs.Prelude.{◌≡◌, ℕ, ◌<◌, Bool, true, false, List, length, ℤ, Some, None, Ok, Err, Option, Result}
 use Rattle.answer.specs.declared.Refusal.{Refusal}
 use Rattle.answer.specs.Numbers.{number}
 use Rattle.format1.specs.Records.{meant_of}
@@ -67,8 +67,9 @@ Examined m i a bytes rsrp (Ok None) = Passed m i a bytes rsrp × (m.held i a ≡
 Examined m i a bytes rsrp (Err e) = first_no (record_questions m i a bytes rsrp) ≡ number e
 
 -- the same of readings: new, or held already
-abbrev pub ExaminedReadings : Meaning → ℕ → List ℕ → Result Bool Refusal → Type 0
-ExaminedReadings m i rs (Ok new) = (first_no (readings_questions m i rs) ≡ 0) × Inside m i × (listened? (m.cell i) ≡ not new)
+abbrev pub ExaminedReadings : Meaning → ℕ → List ℕ → Result Kept Refusal → Type 0
+ExaminedReadings m i rs (Ok New) = (first_no (readings_questions m i rs) ≡ 0) × Inside m i × (listened? (m.cell i) ≡ false)
+ExaminedReadings m i rs (Ok Already) = (first_no (readings_questions m i rs) ≡ 0) × Inside m i × (listened? (m.cell i) ≡ true)
 ExaminedReadings m i rs (Err e) = first_no (readings_questions m i rs) ≡ number e
 
 -- readings that are compared with those of an index that was listened to

@@ -83,15 +83,12 @@ pub trait Asking {
     fn nothing_held(&self) -> bool
         ensures { Decides result (Nothing (meaning self.now)) }
     {
-        let low = self.next_index() - self.window();
-        for k in 0..self.window() + 1 {
-            let Ok(state) = self.state(low + k) else {
+        let next = self.next_index();
+        for index in next - self.window()..=next {
+            let Ok(State::Blank) = self.state(index) else {
                 return false;
             };
-            if state != State::Blank {
-                return false;
-            }
-            if !self.bare_at(low + k) {
+            if !self.bare_at(index) {
                 return false;
             }
         }
@@ -178,19 +175,10 @@ pub fn examine_record<M: Asking>(
 }
 
 // Are there n readings, each at most 4,000,000,000?
-#[tactic(auto, using(rules::proofs::Lists::every_below))]
 fn readings_ok(n: u8, readings: &[u32]) -> bool
     ensures { result ≡ readings_ok n readings.now }
 {
-    if readings.len() != n as usize {
-        return false;
-    }
-    for reading in readings {
-        if *reading > 4_000_000_000 {
-            return false;
-        }
-    }
-    true
+    readings.len() == n as usize && readings.iter().all(|r| *r <= 4_000_000_000)
 }
 
 // Are the readings of an index that was listened to these?
@@ -198,23 +186,20 @@ fn same_readings<M: Asking>(m: &M, index: u64, readings: &[u32]) -> bool
     requires { length readings.now ≡ (M.meaning m.now).channels }
     ensures { SameReadings (M.meaning m.now) index readings.now result }
 {
-    for a in 0..m.channels() {
-        let Ok(held) = m.reading(index, a) else {
+    for (a, reading) in readings.iter().enumerate() {
+        let Ok(Some(held)) = m.reading(index, a as u8) else {
             return false;
         };
-        let Some(reading) = held else {
-            return false;
-        };
-        if reading != readings[a as usize] {
+        if held != *reading {
             return false;
         }
     }
     true
 }
 
-// Are the readings that a memory is asked to keep new? They are not where they are held already; or they are refused by
-// the first question answered no.
-pub fn examine_readings<M: Asking>(m: &M, index: u64, readings: &[u32]) -> Result<bool, Refusal>
+// What becomes of the readings that a memory is asked to keep: they are new or held already, or refused by the first
+// question answered no.
+pub fn examine_readings<M: Asking>(m: &M, index: u64, readings: &[u32]) -> Result<Kept, Refusal>
     ensures { ExaminedReadings (M.meaning m.now) index readings.now result }
 {
     let state = m.state(index)?;
@@ -223,13 +208,9 @@ pub fn examine_readings<M: Asking>(m: &M, index: u64, readings: &[u32]) -> Resul
     }
     match state {
         State::Sent => Err(Refusal::Sent),
-        State::Blank => Ok(true),
-        State::Listened => {
-            if !same_readings(m, index, readings) {
-                return Err(Refusal::OtherReadings);
-            }
-            Ok(false)
-        }
+        State::Blank => Ok(Kept::New),
+        State::Listened if same_readings(m, index, readings) => Ok(Kept::Already),
+        State::Listened => Err(Refusal::OtherReadings),
     }
 }
 
@@ -237,11 +218,7 @@ pub fn examine_readings<M: Asking>(m: &M, index: u64, readings: &[u32]) -> Resul
 pub fn examine_sent<M: Asking>(m: &M, index: u64) -> Result<(), Refusal>
     ensures { ExaminedSent (M.meaning m.now) index result }
 {
-    let state = m.state(index)?;
-    if state != State::Blank {
-        return Err(Refusal::Occupied);
-    }
-    if !m.bare_at(index) {
+    if m.state(index)? != State::Blank || !m.bare_at(index) {
         return Err(Refusal::Occupied);
     }
     Ok(())

@@ -1,13 +1,13 @@
 // Making a memory.
-ghost use Rattle.std.specs.Prelude.{◌≡◌, ℕ, ◌+◌, ◌*◌, ◌<◌, ◌≤◌, length, is_ok, if◌then◌else◌, Decides};
+ghost use Rattle.std.specs.Prelude.{◌≡◌, ℕ, ◌+◌, ◌*◌, length, is_ok, if◌then◌else◌, Decides};
 ghost use Rattle.answer.specs.Numbers.{answered};
 ghost use Rattle.rules.specs.Sensing.{New as Fresh};
-ghost use Rattle.memory.specs.DenseFits.{Fits};
+ghost use Rattle.memory.specs.Fits.{Fits};
 ghost use Rattle.memory.specs.DenseMemory.{dense as dense_meaning};
 
 use crate::dense::Dense;
-use crate::dense::store::{Store, empty};
-use crate::rows::{Row, clear};
+use crate::ring::{self, Ring};
+use crate::rows::Row;
 use answer::Refusal;
 use sensing::Held;
 
@@ -23,12 +23,8 @@ pub fn fits(
     ensures exact { Decides (is_ok result) (Fits channels window (length rows.now) (length readings.now) (length places.now)) }
     ensures answer { answered result ≡ (if is_ok result then 0 else 17) }
 {
-    if channels < 1 || channels > 20 || window > 1000 {
-        return Err(Refusal::Lent);
-    }
-    let rows_wanted = window as usize + 1;
-    let wanted = rows_wanted * channels as usize;
-    if rows.len() < rows_wanted || readings.len() < wanted || places.len() < wanted {
+    ring::fits(channels, window, rows, readings)?;
+    if places.len() < (window as usize + 1) * channels as usize {
         return Err(Refusal::Lent);
     }
     Ok(())
@@ -46,17 +42,10 @@ impl<'a> Dense<'a> {
         requires { Fits channels window (length rows.old) (length readings.old) (length places.old) }
         ensures { Fresh channels window ((window + 1) * channels) (dense_meaning result) }
     {
-        clear(rows);
-        empty(places);
+        places.fill(None);
         Dense {
-            store: Store {
-                rows,
-                readings,
-                places,
-            },
-            channels,
-            window,
-            next: window,
+            ring: Ring::new(channels, window, rows, readings),
+            places,
         }
     }
 }

@@ -1,18 +1,28 @@
 // The keeping half.
-ghost use Rattle.std.specs.Prelude.{◌≡◌};
+ghost use Rattle.std.specs.Prelude.{◌≡◌, length, MatchOption};
+ghost use Rattle.memory.specs.EntryPlaces.{used, Free};
 
-use crate::entries::Entry;
+use crate::entries::{Entry, drop_below, free_place, put};
 use crate::sparse::Sparse;
 use answer::Refusal;
-use sensing::{Asking, Keeping, Kept, examine_readings, examine_record, examine_sent};
+use sensing::{Keeping, Kept, examine_readings, examine_record, examine_sent};
+
+impl<'a> Sparse<'a> {
+    // The first free place.
+    fn free(&self) -> Option<usize>
+        ensures { MatchOption result (used self.now.places.now ≡ length self.now.places.now) (Free self.now.places.now) }
+    {
+        free_place(self.places)
+    }
+}
 
 impl<'a> Keeping for Sparse<'a> {
     fn slide(&mut self, n: u64) -> Result<(), Refusal> {
-        if n < self.next {
+        if n < self.ring.next {
             return Err(Refusal::Back);
         }
-        self.store.drop_below(n - self.window);
-        self.next = n;
+        drop_below(self.places, n - self.ring.window);
+        self.ring.slide(n);
         Ok(())
     }
 
@@ -26,7 +36,7 @@ impl<'a> Keeping for Sparse<'a> {
         let Some(held) = examine_record(self, index, resource, bytes, rsrp)? else {
             return Ok(Kept::Already);
         };
-        let Some(at) = self.store.free() else {
+        let Some(at) = self.free() else {
             return Err(Refusal::Full);
         };
         let entry = Entry {
@@ -34,21 +44,21 @@ impl<'a> Keeping for Sparse<'a> {
             resource,
             held,
         };
-        self.store.put(at, entry);
+        put(self.places, at, entry);
         Ok(Kept::New)
     }
 
     fn keep_readings(&mut self, index: u64, readings: &[u32]) -> Result<Kept, Refusal> {
-        if !examine_readings(self, index, readings)? {
-            return Ok(Kept::Already);
+        let kept = examine_readings(self, index, readings)?;
+        if kept == Kept::New {
+            self.ring.keep_readings(index, readings);
         }
-        self.store.file(self.window, index, readings);
-        Ok(Kept::New)
+        Ok(kept)
     }
 
     fn mark_sent(&mut self, index: u64) -> Result<(), Refusal> {
         examine_sent(self, index)?;
-        self.store.mark(self.window, index);
+        self.ring.mark_sent(index);
         Ok(())
     }
 }

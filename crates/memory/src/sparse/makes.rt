@@ -2,13 +2,13 @@
 ghost use Rattle.std.specs.Prelude.{◌≡◌, length, is_ok, if◌then◌else◌, Decides};
 ghost use Rattle.answer.specs.Numbers.{answered};
 ghost use Rattle.rules.specs.Sensing.{New};
-ghost use Rattle.memory.specs.SparseParts.{Fitting};
+ghost use Rattle.memory.specs.Fits.{Fitting};
 ghost use Rattle.memory.specs.SparseMemory.{sparse as sparse_meaning};
 
 use crate::entries::Entry;
+use crate::ring::{self, Ring};
 use crate::rows::Row;
 use crate::sparse::Sparse;
-use crate::sparse::store::Store;
 use answer::Refusal;
 
 // Can a memory for N sub-channels and a window of W be made over these slices? It takes W + 1 rows, (W + 1) * N readings
@@ -23,14 +23,8 @@ pub fn fits(
     ensures exact { Decides (is_ok result) (Fitting channels window (length rows.now) (length readings.now) (length places.now)) }
     ensures answer { answered result ≡ (if is_ok result then 0 else 17) }
 {
-    if channels < 1 || channels > 20 || window > 1000 {
-        return Err(Refusal::Lent);
-    }
-    let rows_wanted = window as usize + 1;
-    if rows.len() < rows_wanted
-        || readings.len() < rows_wanted * channels as usize
-        || places.len() < 1
-    {
+    ring::fits(channels, window, rows, readings)?;
+    if places.is_empty() {
         return Err(Refusal::Lent);
     }
     Ok(())
@@ -48,17 +42,10 @@ impl<'a> Sparse<'a> {
         requires { Fitting channels window (length rows.old) (length readings.old) (length places.old) }
         ensures { New channels window (length places.old) (sparse_meaning result) }
     {
-        crate::rows::clear(rows);
-        crate::entries::clear(places);
+        places.fill(None);
         Sparse {
-            store: Store {
-                rows,
-                readings,
-                places,
-            },
-            channels,
-            window,
-            next: window,
+            ring: Ring::new(channels, window, rows, readings),
+            places,
         }
     }
 }

@@ -1,28 +1,18 @@
-use Rattle.std.proofs.Common.{sym, refl, arith}
-use mathlib.Core.Logic.{∥∥₁_map}
-use Rattle.std.proofs.lemmas.Bool.{cond-true, le-leb}
-use Rattle.memory.proofs.DenseCalls.{moves, slid_sound}
+use Rattle.std.proofs.Common.{arith}
+use Rattle.rules.proofs.Soundness.{moved_sound}
+use Rattle.memory.specs.DenseMemory.{dense_sound}
+use Rattle.memory.proofs.RingSteps.{room_same}
+use Rattle.memory.proofs.DenseSteps.{moves, room_enough}
 use Rattle.memory.proofs.dense.keeps.DenseKeeping.slide.Goals as goal
 
 pub invariant_of-self : goal.invariant_of-self
 invariant_of-self c =
-    let self = c.args.self.now in
-    let s = self.store in
+    let s = c.args.self.now in
+    let r' = c.slide.new.self in
     record {
-      short = self.short;
-      long = self.long;
-      wide = self.wide;
-      deep = self.deep;
-      upto = λ k h. omega (arith, self.upto k h);
-      sound = ∥∥₁_map self.sound (slid_sound self.channels self.window self.next s.rows.now s.readings.now s.places.now c.args.n self.long self.upto (omega arith));
+      deep = omega (arith, s.deep, room_same c.args.n s.ring r' c.slide.ensures.same);
+      sound = ∣ moved_sound _ c.args.n _ (dense_sound s) c.if-n-self.false (moves c.args.n s.ring r' s.places.now c.slide.ensures) (room_enough r' s.places.now) ∣₁;
     }
 
-pub returns : goal.returns
-returns c =
-    let self = c.args.self.now in
-    let s = self.store in
-    record {
-      answer = sym (cond-true _ _ _ (le-leb self.next c.args.n (omega arith)));
-      done = λ _. moves self.channels self.window self.next s.rows.now s.readings.now s.places.now c.args.n self.long self.upto;
-      refused = λ no. absurd (no refl);
-    }
+pub returns-clause-done : goal.returns-clause-done
+returns-clause-done c = λ _. moves c.args.n c.args.self.now.ring c.slide.new.self c.args.self.now.places.now c.slide.ensures

@@ -1,78 +1,30 @@
-use Rattle.std.proofs.Common.{◌+◌, ◌*◌, ◌≤◌, not, length, sym, refl, ap, ◌∙◌, subst, arith}
+use Rattle.std.proofs.Common.{◌≡◌, ap, ◌∙◌, rules}
 use Rattle.std.proofs.lemmas.Result.{err_from_is_err_and}
 use Rattle.answer.specs.Numbers.{number}
-use Rattle.answer.proofs.Some.{number_some}
-use Rattle.rules.specs.Sensing.{Changed, listened}
+use Rattle.sensing.specs.declared.Kept.TheVariants.{New}
 use Rattle.sensing.specs.declared.State.TheVariants.{Listened}
-use Rattle.memory.specs.RowCells.{Written}
+use Rattle.sensing.specs.Memories.{kept}
 use Rattle.memory.specs.SparseMemory.{sparse}
-use Rattle.memory.specs.SparseParts.{meant}
-use Rattle.memory.proofs.SparseAsked.{readings_refused, readings_passed, readings_fine, readings_many}
+use Rattle.memory.proofs.Asked.{readings_err, readings_kept, readings_new}
 use Rattle.memory.proofs.SparseSelf.{whole}
-use Rattle.memory.proofs.SparseSteps.{Whole, written, heard_whole}
+use Rattle.memory.proofs.SparseSteps.{heard_whole}
 use Rattle.memory.proofs.sparse.keeps.SparseKeeping.keep_readings.Goals as goal
 
-pub returns-in_err-examine_readings : goal.returns-in_err-examine_readings
-returns-in_err-examine_readings c =
-    let s = c.args.self.now in
-    let e = c.in_err-examine_readings.field-0.0 in
+pub returns-in_err-kept-clause-answer : goal.returns-in_err-kept-clause-answer
+returns-in_err-kept-clause-answer c =
     let p = err_from_is_err_and c.from_residual.result c.from_residual.ensures.1 in
-    let some = number_some e in
-    rw (p.1, p.2)
-    (record {
-      answer = sym (readings_refused (sparse s) c.args.index c.args.readings.now (number e) c.in_err-examine_readings.ensures (omega arith));
-      done = λ z. absurd (omega arith);
-      refused = λ _. refl;
-    })
-
-pub returns-then-not-branch : goal.returns-then-not-branch
-returns-then-not-branch c =
-    let s = c.args.self.now in
-    let asked = c.in_ok-examine_readings.ensures in
-    record {
-      answer = sym (readings_passed (sparse s) c.args.index c.args.readings.now _ asked.0 (asked.2 ∙ ap not c.if-not-branch.true));
-      done = λ e. absurd (omega arith);
-      refused = λ _. refl;
-    }
-
-pub file-requires : goal.file-requires
-file-requires c =
-    let s = c.args.self.now in
-    let asked = c.in_ok-examine_readings.ensures in
-    let rs = c.args.readings.now in
-    let many = readings_many s.channels rs (readings_fine (sparse s) c.args.index rs asked.0) in
-    let k = whole s in
-    record { short = k.sound.short; long = k.long; wide = subst (λ m. (s.window + 1) * m ≤ length s.store.readings.now) (sym many) k.wide }
+    ap kept p.1 ∙ ap number p.2 ∙ readings_err (sparse c.args.self.now) c.args.index c.args.readings.now c.in_err-kept.field-0.0 c.in_err-kept.ensures
 
 pub invariant_of-self : goal.invariant_of-self
 invariant_of-self c =
     let s = c.args.self.now in
-    let i = c.args.index in
-    let asked = c.in_ok-examine_readings.ensures in
-    let rs = c.args.readings.now in
-    let ok = readings_fine (sparse s) i rs asked.0 in
-    let rows = c.file.new.self.rows.now in
-    let readings = c.file.new.self.readings.now in
-    let done = subst (λ n. Written n s.window i Listened (listened rs) s.store.rows.now s.store.readings.now rows readings) (readings_many s.channels rs ok) c.file.ensures.done in
-    let k =
-    subst (λ ps. Whole s.channels s.window s.next rows readings ps) (sym c.file.ensures.places)
-    (heard_whole s.channels s.window s.next i Listened rs s.store.rows.now rows s.store.readings.now readings s.store.places.now (whole s) asked.1 ok c.file.ensures.size done) in
-    record { long = k.long; wide = k.wide; upto = k.upto; keys = k.keys; lives = k.lives; sound = ∣ k.sound ∣₁ }
+    let is : c.in_ok-kept.kept ≡ New = search rules in
+    let x = readings_new (sparse s) c.args.index c.args.readings.now c.in_ok-kept.kept c.in_ok-kept.ensures is in
+    let k = heard_whole c.args.index Listened c.args.readings.now s.ring c.keep_readings.new.self s.places.now (whole s) x.0 x.1 c.keep_readings.ensures in
+    record { keys = k.keys; lives = k.lives; sound = ∣ k.sound ∣₁ }
 
-pub returns : goal.returns
-returns c =
-    let s = c.args.self.now in
-    let i = c.args.index in
-    let asked = c.in_ok-examine_readings.ensures in
-    let rs = c.args.readings.now in
-    let ok = readings_fine (sparse s) i rs asked.0 in
-    let rows = c.file.new.self.rows.now in
-    let readings = c.file.new.self.readings.now in
-    let done = subst (λ n. Written n s.window i Listened (listened rs) s.store.rows.now s.store.readings.now rows readings) (readings_many s.channels rs ok) c.file.ensures.done in
-    record {
-      answer = sym (readings_passed (sparse s) i rs _ asked.0 (asked.2 ∙ ap not c.if-not-branch.false));
-      done = λ _.
-          subst (λ ps. Changed (sparse s) i (listened rs) (meant s.channels s.window s.next rows readings ps)) (sym c.file.ensures.places)
-          (written s.channels s.window s.next i Listened (listened rs) s.store.rows.now rows s.store.readings.now readings s.store.places.now (whole s) asked.1 done);
-      refused = λ no. absurd (no refl);
-    }
+pub returns-then-eq-clause-answer : goal.returns-then-eq-clause-answer
+returns-then-eq-clause-answer c = readings_kept (sparse c.args.self.now) c.args.index c.args.readings.now c.in_ok-kept.kept c.in_ok-kept.ensures
+
+pub returns-else-eq-clause-answer : goal.returns-else-eq-clause-answer
+returns-else-eq-clause-answer c = readings_kept (sparse c.args.self.now) c.args.index c.args.readings.now c.in_ok-kept.kept c.in_ok-kept.ensures

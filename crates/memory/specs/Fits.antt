@@ -1,0 +1,20 @@
+-- What a memory can be made of. Assumes nothing.
+use Rattle.std.specs.Prelude.{ℕ, ◌+◌, ◌*◌, ◌<◌, ◌≤◌}
+
+-- n sub-channels and a window of w, and slices of enough rows and readings
+pub record FitsRing (n w rows readings : ℕ) : Type 0 where
+  pub some : 1 ≤ n
+  pub few : n ≤ 20
+  pub short : w ≤ 1000
+  pub long : w < rows
+  pub wide : (w + 1) * n ≤ readings
+
+-- and of as many places, which a dense memory takes
+pub record Fits (n w rows readings places : ℕ) : Type 0 where
+  pub ring : FitsRing n w rows readings
+  pub deep : (w + 1) * n ≤ places
+
+-- and of one place, which a sparse memory takes
+pub record Fitting (n w rows readings places : ℕ) : Type 0 where
+  pub ring : FitsRing n w rows readings
+  pub deep : 1 ≤ places

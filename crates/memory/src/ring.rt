@@ -1,0 +1,188 @@
+// The half that both kinds of memory share: the rows and the readings, in slices that the caller lends. The row of an
+// index i is that at i % (W + 1). It speaks for i only if it is stamped with i: otherwise i is blank, so that nothing has
+// to be cleared when the window moves on. The readings of the row at k stand at k * N to k * N + N - 1.
+ghost use Rattle.std.specs.Prelude.{◌≡◌, ℕ, ◌+◌, ◌*◌, ◌%◌, ◌<◌, ◌≤◌, not, length, is_ok, if◌then◌else◌, Decides};
+ghost use Rattle.answer.specs.Numbers.{answered};
+ghost use Rattle.rules.specs.Counting.{first_no};
+ghost use Rattle.rules.specs.Sensing.{New, index_questions, resource_questions, asked_mark, asked_reading, listened, sent as was_sent};
+ghost use Rattle.sensing.specs.declared.State.TheVariants.{Listened, Sent};
+ghost use Rattle.sensing.specs.Memories.{marked, reading_of};
+ghost use Rattle.memory.specs.RowCells.{Upto};
+ghost use Rattle.memory.specs.Fits.{FitsRing};
+
+use crate::rows::Row;
+use answer::Refusal;
+use sensing::State;
+
+#[derive(Drop)]
+pub struct Ring<'a> {
+    rows: &'a mut [Row],
+    readings: &'a mut [u32],
+    pub(crate) channels: u8,
+    pub(crate) window: u64,
+    pub(crate) next: u64,
+    ghost short: { window ≤ 1000 },
+    ghost long: { window < length rows.now },
+    ghost wide: { (window + 1) * channels ≤ length readings.now },
+    ghost upto: { Upto next rows.now },
+}
+
+// Can a ring for N sub-channels and a window of W be made over these slices? It takes W + 1 rows, and N readings for each
+// of them.
+pub(crate) fn fits(channels: u8, window: u64, rows: &[Row], readings: &[u32]) -> Result<(), Refusal>
+    ensures exact { Decides (is_ok result) (FitsRing channels window (length rows.now) (length readings.now)) }
+    ensures answer { answered result ≡ (if is_ok result then 0 else 17) }
+{
+    if channels < 1 || channels > 20 || window > 1000 {
+        return Err(Refusal::Lent);
+    }
+    let rows_wanted = window as usize + 1;
+    if rows.len() < rows_wanted || readings.len() < rows_wanted * channels as usize {
+        return Err(Refusal::Lent);
+    }
+    Ok(())
+}
+
+impl<'a> Ring<'a> {
+    ghost use Rattle.memory.specs.Rings.{alone, stamped, place, Claimed, Written, Slid};
+
+    // A ring in which every index is blank, whatever the slices hold.
+    pub(crate) fn new(
+        channels: u8,
+        window: u64,
+        rows: &'a mut [Row],
+        readings: &'a mut [u32],
+    ) -> Ring<'a>
+        requires { FitsRing channels window (length rows.old) (length readings.old) }
+        ensures { New channels window 0 (alone result) }
+    {
+        rows.fill(Row {
+            index: 0,
+            state: State::Blank,
+        });
+        Ring {
+            rows,
+            readings,
+            channels,
+            window,
+            next: window,
+        }
+    }
+
+    // Is the index inside?
+    fn ask(&self, index: u64) -> Result<(), Refusal>
+        ensures { answered result ≡ first_no (index_questions (alone self.now) index) }
+    {
+        if index > self.next || self.next - index > self.window {
+            return Err(Refusal::Outside);
+        }
+        Ok(())
+    }
+
+    // Is the index inside, and is the resource one of the pool's?
+    pub(crate) fn ask_at(&self, index: u64, resource: u8) -> Result<(), Refusal>
+        ensures { answered result ≡ first_no (resource_questions (alone self.now) index resource) }
+    {
+        self.ask(index)?;
+        if resource >= self.channels {
+            return Err(Refusal::Resource);
+        }
+        Ok(())
+    }
+
+    // The row in which the index stands, if it stands in one.
+    fn row(&self, index: u64) -> usize
+        ensures { result ≡ index % (self.now.window + 1) }
+    {
+        (index % (self.window + 1)) as usize
+    }
+
+    // The place of a resource of the index, among as many as there are resources in all rows.
+    pub(crate) fn place(&self, index: u64, resource: u8) -> usize
+        ensures { result ≡ place self.now index resource }
+    {
+        self.row(index) * self.channels as usize + resource as usize
+    }
+
+    // Is the row of the index stamped with it?
+    pub(crate) fn stands(&self, index: u64) -> bool
+        ensures { result ≡ stamped self.now index }
+    {
+        self.rows[self.row(index)].index == index
+    }
+
+    // The state of an index.
+    pub(crate) fn state(&self, index: u64) -> Result<State, Refusal>
+        ensures { marked result ≡ asked_mark (alone self.now) index }
+    {
+        self.ask(index)?;
+        if !self.stands(index) {
+            return Ok(State::Blank);
+        }
+        Ok(self.rows[self.row(index)].state)
+    }
+
+    // The reading of a sub-channel at an index.
+    pub(crate) fn reading(&self, index: u64, resource: u8) -> Result<Option<u32>, Refusal>
+        ensures { reading_of result ≡ asked_reading (alone self.now) index resource }
+    {
+        self.ask_at(index, resource)?;
+        if self.state(index)? != State::Listened {
+            return Ok(None);
+        }
+        Ok(Some(self.readings[self.place(index, resource)]))
+    }
+
+    // Makes n the next index, and leaves the rows as they are.
+    pub(crate) fn slide(&mut self, n: u64)
+        requires { self.old.next ≤ n }
+        ensures { Slid n self.old self.new }
+    {
+        self.next = n;
+    }
+
+    // Makes the row of the index blank and stamps it, unless it is stamped already. No cell changes by that. True says
+    // that the row was another index's.
+    pub(crate) fn claim(&mut self, index: u64) -> bool
+        requires { index ≤ self.old.next }
+        ensures other { result ≡ not (stamped self.old index) }
+        ensures done { Claimed index self.old self.new }
+    {
+        if self.stands(index) {
+            return false;
+        }
+        let row = self.row(index);
+        self.rows[row] = Row {
+            index,
+            state: State::Blank,
+        };
+        true
+    }
+
+    // Gives the index a state, and its row the index's stamp.
+    pub(crate) fn mark_sent(&mut self, index: u64)
+        requires { index ≤ self.old.next }
+        ensures { Written index Sent was_sent self.old self.new }
+    {
+        let row = self.row(index);
+        self.rows[row] = Row {
+            index,
+            state: State::Sent,
+        };
+    }
+
+    // Keeps the readings of all sub-channels at the index.
+    pub(crate) fn keep_readings(&mut self, index: u64, new: &[u32])
+        requires upto { index ≤ self.old.next }
+        requires many { length new.now ≡ self.old.channels }
+        ensures { Written index Listened (listened new.now) self.old self.new }
+    {
+        let at = self.place(index, 0);
+        self.readings[at..at + new.len()].copy_from_slice(new);
+        let row = self.row(index);
+        self.rows[row] = Row {
+            index,
+            state: State::Listened,
+        };
+    }
+}
