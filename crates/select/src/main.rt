@@ -43,35 +43,13 @@ struct Scene {
     steps: Vec<Step>,
 }
 
-// What a memory answers to what it is given at an index. To records at all resources it is the largest number.
-fn keep<M: Keeping>(pool: &Pool, m: &mut M, index: u64, given: &Given) -> u8 {
-    match given {
-        Given::Reading(reading) => {
-            let n = usize::from(pool.channels().min(20));
-            number(m.keep_readings(index, &[*reading; 20][..n]))
-        }
-        Given::Readings(readings) => number(m.keep_readings(index, readings.as_slice())),
-        Given::Sent => number(m.mark_sent(index)),
-        Given::Record { resource, heard } => number(m.keep_record(
-            index,
-            *resource,
-            heard.bytes,
-            heard.rsrp,
-        )),
-        Given::Records(heard) => (0..pool.channels())
-            .map(|resource| number(m.keep_record(index, resource, heard.bytes, heard.rsrp)))
-            .max()
-            .unwrap_or(0),
-    }
-}
-
-// The largest number that a memory answers in the set subframes of a range.
-fn keep_along<M: Keeping>(pool: &Pool, m: &mut M, subframes: &Range<u64>, given: &Given) -> u8 {
-    (subframes.start..subframes.end)
-        .filter_map(|subframe| pool.index(subframe))
-        .map(|index| keep(pool, m, index, given))
-        .max()
-        .unwrap_or(0)
+// A unit at one subframe: its pool, its memory, and the raise that its selections share.
+#[derive(Drop)]
+struct Unit<'p, 'm, M> {
+    pool: &'p Pool,
+    memory: &'m mut M,
+    at: u64,
+    raise: Raise,
 }
 
 // The raise, the size and the places of a report, a line each.
@@ -85,46 +63,84 @@ fn write_report(text: &mut String, report: &Report) -> anyhow::Result<()> {
     Ok(())
 }
 
-// Puts a question and writes what it finds.
-fn ask<M: Keeping>(
-    text: &mut String,
-    pool: &Pool,
-    at: u64,
-    m: &M,
-    q: &Question,
-    raise: &mut Raise,
-) -> anyhow::Result<()> {
-    if let Ok(found) = candidates(pool, at, q) {
-        let many = found.count();
-        let subframes = found.slots().len();
-        writeln!(text, "candidates {many} in {subframes} subframes")?;
+impl<M: Keeping> Unit<'_, '_, M> {
+    // What the memory answers to what it is given at an index. To records at all resources it is the largest number.
+    fn keep(&mut self, index: u64, given: &Given) -> u8 {
+        let m = &mut *self.memory;
+        match given {
+            Given::Reading(reading) => {
+                let n = usize::from(self.pool.channels().min(20));
+                number(m.keep_readings(index, &[*reading; 20][..n]))
+            }
+            Given::Readings(readings) => number(m.keep_readings(index, readings.as_slice())),
+            Given::Sent => number(m.mark_sent(index)),
+            Given::Record { resource, heard } => number(m.keep_record(
+                index,
+                *resource,
+                heard.bytes,
+                heard.rsrp,
+            )),
+            Given::Records(heard) => (0..self.pool.channels())
+                .map(|resource| number(m.keep_record(index, resource, heard.bytes, heard.rsrp)))
+                .max()
+                .unwrap_or(0),
+        }
     }
-    match choose(pool, at, m, q, raise) {
-        Ok(report) => write_report(text, &report)?,
-        Err(refusal) => writeln!(text, "refused {refusal}")?,
+
+    // The largest number that the memory answers in the set subframes of a range.
+    fn keep_along(&mut self, subframes: &Range<u64>, given: &Given) -> u8 {
+        let pool = self.pool;
+        (subframes.start..subframes.end)
+            .filter_map(|subframe| pool.index(subframe))
+            .map(|index| self.keep(index, given))
+            .max()
+            .unwrap_or(0)
     }
-    Ok(())
+
+    // Puts a question and writes what it finds.
+    fn ask(&mut self, text: &mut String, q: &Question) -> anyhow::Result<()> {
+        if let Ok(found) = candidates(self.pool, self.at, q) {
+            let many = found.count();
+            let subframes = found.slots().len();
+            writeln!(text, "candidates {many} in {subframes} subframes")?;
+        }
+        match choose(self.pool, self.at, &*self.memory, q, &mut self.raise) {
+            Ok(report) => write_report(text, &report)?,
+            Err(refusal) => writeln!(text, "refused {refusal}")?,
+        }
+        Ok(())
+    }
 }
 
 // What a scene says over a new memory.
-fn play<M: Keeping>(heap: Global, pool: &Pool, scene: &Scene, m: &mut M) -> anyhow::Result<String> {
+fn play<M: Keeping>(
+    heap: Global,
+    pool: &Pool,
+    scene: &Scene,
+    memory: &mut M,
+) -> anyhow::Result<String> {
     let mut text = String::new(heap);
-    let mut raise = Raise::new();
-    let slid = number(m.slide(pool.next_index(scene.at)));
+    let slid = number(memory.slide(pool.next_index(scene.at)));
     if slid != 0 {
         writeln!(text, "not slid: {slid:02}")?;
     }
+    let mut unit = Unit {
+        pool,
+        memory,
+        at: scene.at,
+        raise: Raise::new(),
+    };
     for step in scene.steps.iter() {
         let kept = match step {
             Step::Ask(q) => {
-                ask(&mut text, pool, scene.at, m, q, &mut raise)?;
+                unit.ask(&mut text, q)?;
                 continue;
             }
             Step::At { subframe, given } => match pool.index(*subframe) {
-                Some(index) => keep(pool, m, index, given),
+                Some(index) => unit.keep(index, given),
                 None => Refusal::Unset.number(),
             },
-            Step::Along { subframes, given } => keep_along(pool, m, subframes, given),
+            Step::Along { subframes, given } => unit.keep_along(subframes, given),
         };
         if kept != 0 {
             writeln!(text, "not kept: {kept:02}")?;
