@@ -6,7 +6,7 @@ use answer::Refusal;
 use anyhow::anyhow;
 use choosing::Question;
 use choosing::finds::candidates;
-use console::{Offsets, number};
+use console::Offsets;
 use lines::{Given, Line, Step, built_in, said};
 use memory::dense::Dense;
 use memory::entries::Entry;
@@ -64,37 +64,35 @@ fn write_report(text: &mut String, report: &Report) -> anyhow::Result<()> {
 }
 
 impl<M: Keeping> Unit<'_, '_, M> {
-    // What the memory answers to what it is given at an index. To records at all resources it is the largest number.
-    fn keep(&mut self, index: u64, given: &Given) -> u8 {
+    // Gives the memory something at an index. Of the refusals of records at all resources, the one of the largest number.
+    fn keep(&mut self, index: u64, given: &Given) -> Option<Refusal> {
         let m = &mut *self.memory;
         match given {
             Given::Reading(reading) => {
                 let n = usize::from(self.pool.channels().min(20));
-                number(m.keep_readings(index, &[*reading; 20][..n]))
+                m.keep_readings(index, &[*reading; 20][..n]).err()
             }
-            Given::Readings(readings) => number(m.keep_readings(index, readings.as_slice())),
-            Given::Sent => number(m.mark_sent(index)),
-            Given::Record { resource, heard } => number(m.keep_record(
-                index,
-                *resource,
-                heard.bytes,
-                heard.rsrp,
-            )),
+            Given::Readings(readings) => m.keep_readings(index, readings.as_slice()).err(),
+            Given::Sent => m.mark_sent(index).err(),
+            Given::Record { resource, heard } => m
+                .keep_record(index, *resource, heard.bytes, heard.rsrp)
+                .err(),
             Given::Records(heard) => (0..self.pool.channels())
-                .map(|resource| number(m.keep_record(index, resource, heard.bytes, heard.rsrp)))
-                .max()
-                .unwrap_or(0),
+                .filter_map(|resource| {
+                    m.keep_record(index, resource, heard.bytes, heard.rsrp)
+                        .err()
+                })
+                .max_by_key(|refusal| refusal.number()),
         }
     }
 
-    // The largest number that the memory answers in the set subframes of a range.
-    fn keep_along(&mut self, subframes: &Range<u64>, given: &Given) -> u8 {
+    // The same in the set subframes of a range; of the refusals, the one of the largest number.
+    fn keep_along(&mut self, subframes: &Range<u64>, given: &Given) -> Option<Refusal> {
         let pool = self.pool;
         (subframes.start..subframes.end)
             .filter_map(|subframe| pool.index(subframe))
-            .map(|index| self.keep(index, given))
-            .max()
-            .unwrap_or(0)
+            .filter_map(|index| self.keep(index, given))
+            .max_by_key(|refusal| refusal.number())
     }
 
     // Puts a question and writes what it finds.
@@ -120,9 +118,9 @@ fn play<M: Keeping>(
     memory: &mut M,
 ) -> anyhow::Result<String> {
     let mut text = String::new(heap);
-    let slid = number(memory.slide(pool.next_index(scene.at)));
-    if slid != 0 {
-        writeln!(text, "not slid: {slid:02}")?;
+    if let Err(refusal) = memory.slide(pool.next_index(scene.at)) {
+        let number = refusal.number();
+        writeln!(text, "not slid: {number:02}")?;
     }
     let mut unit = Unit {
         pool,
@@ -131,19 +129,20 @@ fn play<M: Keeping>(
         raise: Raise::new(),
     };
     for step in scene.steps.iter() {
-        let kept = match step {
+        let refused = match step {
             Step::Ask(q) => {
                 unit.ask(&mut text, q)?;
-                continue;
+                None
             }
             Step::At { subframe, given } => match pool.index(*subframe) {
                 Some(index) => unit.keep(index, given),
-                None => Refusal::Unset.number(),
+                None => Some(Refusal::Unset),
             },
             Step::Along { subframes, given } => unit.keep_along(subframes, given),
         };
-        if kept != 0 {
-            writeln!(text, "not kept: {kept:02}")?;
+        if let Some(refusal) = refused {
+            let number = refusal.number();
+            writeln!(text, "not kept: {number:02}")?;
         }
     }
     Ok(text)
