@@ -97,6 +97,7 @@ impl Bitmap {
 #[cfg(test)]
 mod tests {
     use super::*;
+    use std::test::Fail;
 
     #[test]
     fn numbers(rt: HostRuntime) {
@@ -166,5 +167,21 @@ mod tests {
         );
         assert_eq!(rt; Bitmap::read("10 1"), None);
         assert_eq!(rt; Bitmap::read("12"), None);
+    }
+
+    #[test]
+    fn counts_past_the_bytes(rt: HostRuntime) -> Result<(), Fail> {
+        let bytes = [0xff; 13];
+        let more = "1".repeat(rt.alloc(), 105)?;
+        assert_eq!(rt;
+            Bitmap::read(more.as_str()),
+            Some(Bitmap { size: 105, bytes })
+        );
+        let many = "1".repeat(rt.alloc(), 300)?;
+        assert_eq!(rt;
+            Bitmap::read(many.as_str()),
+            Some(Bitmap { size: 255, bytes })
+        );
+        Ok(())
     }
 }
