@@ -1,8 +1,8 @@
 // The input of the program: a pool as it is asked for, and which subframes to show.
-ghost use Rattle.std.specs.Prelude.{ℕ, ◌≤◌};
-
+use arrayvec::ArrayVec;
+use console::{Bitmap, Offsets, code_bit};
 use pool::Settings;
-use std::fmt;
+use thiserror::Error;
 
 #[derive(Clone, Copy)]
 pub(crate) struct Input {
@@ -12,43 +12,30 @@ pub(crate) struct Input {
 }
 
 // Why a line cannot be read.
-#[derive(Clone, Copy, PartialEq, Eq, Debug)]
+#[derive(PartialEq, Eq, Debug, Drop, Error)]
 pub(crate) enum Fault {
+    #[error("not of the form `name = value`")]
     NoEquals,
+    #[error("no such name")]
     Name,
+    #[error("not a number")]
     Number,
+    #[error("a bitmap has only 0s and 1s")]
     Bit,
+    #[error("an interval code is from 1 to 16")]
     Code,
+    #[error("one level for all, or 64 levels")]
     Levels,
-}
-
-impl fmt::Display for Fault {
-    fn fmt<W: fmt::Write>(&self, f: &mut fmt::Formatter<W>) -> fmt::Result {
-        f.write_str(match self {
-            Fault::NoEquals => "not of the form `name = value`",
-            Fault::Name => "no such name",
-            Fault::Number => "not a number",
-            Fault::Bit => "a bitmap has only 0s and 1s",
-            Fault::Code => "an interval code is from 1 to 16",
-            Fault::Levels => "one level for all, or 64 levels",
-        })
-    }
-}
-
-// A number that is kept in a byte. What is above 255 counts as 255, which every question of configure refuses.
-fn byte(text: &str) -> Result<u8, Fault> {
-    match text.trim().parse::<u64>() {
-        Ok(n) => Ok(n.min(255) as u8),
-        Err(_) => Err(Fault::Number),
-    }
 }
 
 // A number of subframes.
 fn number(text: &str) -> Result<u64, Fault> {
-    match text.parse::<u64>() {
-        Ok(n) => Ok(n),
-        Err(_) => Err(Fault::Number),
-    }
+    text.parse().map_err(|_| Fault::Number)
+}
+
+// A number that is kept in a byte. What is above 255 counts as 255, which every question of configure refuses.
+fn byte(text: &str) -> Result<u8, Fault> {
+    Ok(u8::try_from(number(text.trim())?).unwrap_or(u8::MAX))
 }
 
 // Is a list empty?
@@ -57,72 +44,36 @@ fn none(text: &str) -> bool {
 }
 
 // How many offsets are used, and the first three.
-fn offsets(text: &str) -> Result<(u8, [u8; 3]), Fault> {
-    let mut used = 0u8;
-    let mut offsets = [0u8; 3];
+fn offsets(text: &str) -> Result<Offsets, Fault> {
+    let mut offsets = Offsets::default();
     if none(text) {
-        return Ok((used, offsets));
+        return Ok(offsets);
     }
     for part in text.split(',') {
-        let offset = byte(part)?;
-        if used < 3 {
-            offsets[used as usize] = offset;
-        }
-        used = used.saturating_add(1);
+        offsets.push(byte(part)?);
     }
-    Ok((used, offsets))
-}
-
-// The bitmap's length, and the bytes of its first 104 bits, bit 0 the highest of byte 0.
-fn bitmap(text: &str) -> Result<(u8, [u8; 13]), Fault> {
-    let mut size = 0u8;
-    let mut bytes = [0u8; 13];
-    for digit in text.bytes() {
-        let bit = match digit {
-            b'0' => 0u8,
-            b'1' => 128 >> (size % 8),
-            _ => return Err(Fault::Bit),
-        };
-        if size < 104 {
-            bytes[size as usize / 8] |= bit;
-        }
-        size = size.saturating_add(1);
-    }
-    Ok((size, bytes))
+    Ok(offsets)
 }
 
 // The interval mask: code c sets bit c - 1.
 fn intervals(text: &str) -> Result<u16, Fault> {
-    let mut mask = 0u16;
     if none(text) {
-        return Ok(mask);
+        return Ok(0);
     }
-    for part in text.split(',') {
-        let code = byte(part)?;
-        if code < 1 || code > 16 {
-            return Err(Fault::Code);
-        }
-        mask |= 1 << (code - 1);
-    }
-    Ok(mask)
+    text.split(',').try_fold(0, |mask, part| {
+        Ok(mask | code_bit(byte(part)?).ok_or(Fault::Code)?)
+    })
 }
 
 // One level for all, or 64 of them.
 fn levels(text: &str) -> Result<[u8; 64], Fault> {
-    let mut levels = [0u8; 64];
-    let mut count = 0usize;
+    let mut levels = ArrayVec::<u8, 64>::new();
     for part in text.split(',') {
-        let level = byte(part)?;
-        if count >= 64 {
-            return Err(Fault::Levels);
-        }
-        levels[count] = level;
-        count += 1;
+        levels.try_push(byte(part)?).map_err(|_| Fault::Levels)?;
     }
-    match count {
-        1 => Ok([levels[0]; 64]),
-        64 => Ok(levels),
-        _ => Err(Fault::Levels),
+    match *levels.as_slice() {
+        [level] => Ok([level; 64]),
+        _ => levels.into_inner().map_err(|_| Fault::Levels),
     }
 }
 
@@ -151,9 +102,7 @@ impl Input {
         if line.is_empty() || line.starts_with('#') {
             return Ok(());
         }
-        let Some((name, value)) = line.split_once('=') else {
-            return Err(Fault::NoEquals);
-        };
+        let (name, value) = line.split_once('=').ok_or(Fault::NoEquals)?;
         self.set(name.trim(), value.trim())
     }
 
@@ -162,12 +111,12 @@ impl Input {
             "channels" => self.settings.channels = byte(value)?,
             "uplink" => self.settings.uplink = byte(value)?,
             "offsets" => {
-                let (used, offsets) = offsets(value)?;
+                let Offsets { used, values } = offsets(value)?;
                 self.settings.used = used;
-                self.settings.offsets = offsets;
+                self.settings.offsets = values;
             }
             "bitmap" => {
-                let (size, bytes) = bitmap(value)?;
+                let Bitmap { size, bytes } = Bitmap::read(value).ok_or(Fault::Bit)?;
                 self.settings.size = size;
                 self.settings.bitmap = bytes;
             }
@@ -230,11 +179,7 @@ mod tests {
             let mut input = Input::built_in();
             assert_eq!(rt; input.take(line), Ok(()));
             let mut pool = Pool::built_in();
-            let answer = match pool.configure(&input.settings) {
-                Ok(()) => 0,
-                Err(refusal) => refusal.number(),
-            };
-            assert_eq!(rt; answer, number);
+            assert_eq!(rt; console::number(pool.configure(&input.settings)), number);
         }
     }
 }

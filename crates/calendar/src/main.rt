@@ -10,58 +10,42 @@ mod input;
 
 // R, V, T, P_step and W of the pool, and the index of the first set subframe not before the start.
 fn print_numbers(rt: &HostRuntime, pool: &Pool, start: u64) -> anyhow::Result<()> {
-    let remaining = pool.remaining();
-    println!(rt; "R {remaining}")?;
-    let reserved = pool.left_over();
-    println!(rt; "V {reserved}")?;
-    let cycle = pool.cycle();
-    println!(rt; "T {cycle}")?;
-    let step = pool.step();
-    println!(rt; "P_step {step}")?;
-    let window = pool.window();
-    println!(rt; "W {window}")?;
-    let next = pool.next_index(start);
-    println!(rt; "next {next}")?;
+    println!(rt; "R {}", pool.remaining())?;
+    println!(rt; "V {}", pool.left_over())?;
+    println!(rt; "T {}", pool.cycle())?;
+    println!(rt; "P_step {}", pool.step())?;
+    println!(rt; "W {}", pool.window())?;
+    println!(rt; "next {}", pool.next_index(start))?;
     Ok(())
 }
 
 // The next pool subframes not before the start, each with its index.
 fn print_subframes(rt: &HostRuntime, pool: &Pool, start: u64, show: u64) -> anyhow::Result<()> {
-    let mut left = show;
-    for subframe in start..u64::MAX {
-        if left == 0 {
-            break;
-        }
-        let Some(index) = pool.index(subframe) else {
-            continue;
-        };
-        if pool.in_pool(index) {
-            println!(rt; "{subframe} {index}")?;
-            left -= 1;
-        }
+    let listed = (start..u64::MAX)
+        .filter_map(|subframe| Some((subframe, pool.index(subframe)?)))
+        .filter(|(_, index)| pool.in_pool(*index))
+        .take(show as usize);
+    for (subframe, index) in listed {
+        println!(rt; "{subframe} {index}")?;
     }
     Ok(())
 }
 
 // The input, read line by line.
-fn read(rt: &HostRuntime, text: &str) -> anyhow::Result<Input> {
+fn read(text: &str) -> anyhow::Result<Input> {
     let mut input = Input::built_in();
-    let mut number: u64 = 0;
-    for line in text.lines() {
-        number = number.saturating_add(1);
-        match input.take(line) {
-            Ok(()) => {}
-            Err(fault) => {
-                return Err(anyhow!(format!(in rt.alloc(); "line {number}: {fault}: `{line}`")?));
-            }
-        }
+    for (i, line) in text.lines().enumerate() {
+        let number = i.saturating_add(1);
+        input
+            .take(line)
+            .map_err(|fault| anyhow!("line {number}: {fault}: `{line}`"))?;
     }
     Ok(input)
 }
 
 fn run(rt: &HostRuntime) -> anyhow::Result<()> {
     let text = io::read_to_string(rt.alloc(), rt.stdin())?;
-    let input = read(rt, text.as_str())?;
+    let input = read(text.as_str())?;
     let mut pool = Pool::built_in();
     match pool.configure(&input.settings) {
         Ok(()) => {

@@ -6,16 +6,19 @@ ghost use Rattle.std.specs.Prelude.{◌≡◌, ℕ, ◌≤◌, IfOk, string_byte
 ghost use Rattle.record.specs.Lines.{fields};
 
 use anyhow::anyhow;
+use console::four_bytes;
 use format1::{Record, read};
 use std::alloc::{AllocError, Global};
+use std::io;
 use std::process::ExitCode;
-use std::{fmt, io};
+use std::str::FromStr;
+use thiserror::Error;
 
 // Shown where the input is empty.
 const EXAMPLE: &str = "1 02000000\n5 038AB800\n5 03E00000\n20 F9A3FF80 9\n20 F9A3FF80 10\n";
 
 // What a line asks for.
-#[derive(Clone, Copy)]
+#[derive(Drop)]
 struct Question {
     channels: u8,
     bytes: [u8; 4],
@@ -23,71 +26,52 @@ struct Question {
 }
 
 // Why a line cannot be read.
-#[derive(Clone, Copy)]
+#[derive(Debug, Drop, Error)]
 enum Fault {
+    #[error("not two or three fields")]
     Fields,
+    #[error("the number of sub-channels is not from 1 to 20")]
     Channels,
+    #[error("the record is not eight hexadecimal digits")]
     Bytes,
+    #[error("the resource is not a number from 0 to 255")]
     Resource,
-}
-
-impl fmt::Display for Fault {
-    fn fmt<W: fmt::Write>(&self, f: &mut fmt::Formatter<W>) -> fmt::Result {
-        f.write_str(match self {
-            Fault::Fields => "not two or three fields",
-            Fault::Channels => "the number of sub-channels is not from 1 to 20",
-            Fault::Bytes => "the record is not eight hexadecimal digits",
-            Fault::Resource => "the resource is not a number from 0 to 255",
-        })
-    }
 }
 
 // The number of sub-channels.
 fn channels(text: &str) -> Result<u8, Fault>
     ensures { IfOk result (λ n. (1 ≤ n) × (n ≤ 20)) }
 {
-    match text.parse::<u8>() {
-        Ok(n) if n >= 1 && n <= 20 => Ok(n),
+    match text.parse() {
+        Ok(n @ 1..=20) => Ok(n),
         _ => Err(Fault::Channels),
-    }
-}
-
-// The four bytes of a record.
-fn four_bytes(text: &str) -> Result<[u8; 4], Fault> {
-    if text.len() != 8 || text.starts_with('+') {
-        return Err(Fault::Bytes);
-    }
-    match u32::from_str_radix(text, 16) {
-        Ok(word) => Ok(word.to_be_bytes()),
-        Err(_) => Err(Fault::Bytes),
     }
 }
 
 // The resource, which is 0 where it is left out.
 fn resource(field: Option<&str>) -> Result<u8, Fault> {
-    let Some(text) = field else {
-        return Ok(0);
-    };
-    match text.parse::<u8>() {
-        Ok(n) => Ok(n),
-        Err(_) => Err(Fault::Resource),
-    }
+    field.map_or(Ok(0), |text| text.parse().map_err(|_| Fault::Resource))
 }
 
-fn asked(line: &str) -> Result<Question, Fault> {
-    let mut parts = line.split_whitespace();
-    let (Some(n), Some(record)) = (parts.next(), parts.next()) else {
-        return Err(Fault::Fields);
-    };
-    let third = parts.next();
-    if parts.next().is_some() {
-        return Err(Fault::Fields);
+impl FromStr for Question {
+    type Err = Fault;
+
+    fn from_str(line: &str) -> Result<Question, Fault> {
+        let mut fields = line.split_whitespace();
+        let (Some(n), Some(record), third, None) = (
+            fields.next(),
+            fields.next(),
+            fields.next(),
+            fields.next(),
+        ) else {
+            return Err(Fault::Fields);
+        };
+        Ok(Question {
+            channels: channels(n)?,
+            bytes: four_bytes(record).ok_or(Fault::Bytes)?,
+            resource: resource(third)?,
+        })
     }
-    Ok(Question {
-        channels: channels(n)?,
-        bytes: four_bytes(record)?,
-        resource: resource(third)?,
-    })
 }
 
 // The fields of a record, each after its name.
@@ -127,13 +111,11 @@ fn run(rt: &HostRuntime) -> anyhow::Result<()> {
         if line.is_empty() || line.starts_with('#') {
             continue;
         }
-        match asked(line) {
-            Ok(q) => answer_to(rt, q)?,
-            Err(fault) => {
-                let number = i.saturating_add(1);
-                return Err(anyhow!(format!(in rt.alloc(); "line {number}: {fault}")?));
-            }
-        }
+        let number = i.saturating_add(1);
+        let question = line
+            .parse()
+            .map_err(|fault| anyhow!("line {number}: {fault}"))?;
+        answer_to(rt, question)?;
     }
     Ok(())
 }

@@ -1,90 +1,97 @@
 // A scene, read line by line: a pool, the present subframe, and what a memory is given and asked then.
+use arrayvec::ArrayVec;
 use choosing::Question;
+use console::{Bitmap, Offsets, code_bit, four_bytes};
 use pool::Settings;
-use std::fmt;
+use std::ops::Range;
 use std::str::FromStr;
+use thiserror::Error;
+
+// The four bytes of a record, and its RSRP.
+#[derive(Clone, Copy)]
+pub(crate) struct Heard {
+    pub(crate) bytes: [u8; 4],
+    pub(crate) rsrp: i16,
+}
+
+// What a memory is given in a subframe.
+#[derive(Drop)]
+pub(crate) enum Given {
+    // one reading for all sub-channels
+    Reading(u32),
+    // a reading for each sub-channel
+    Readings(ArrayVec<u32, 20>),
+    Sent,
+    Record { resource: u8, heard: Heard },
+    // the same record at all resources
+    Records(Heard),
+}
 
 // One thing that a memory is given, or one question of the scheduler.
-#[derive(Clone, Copy)]
+#[derive(Drop)]
 pub(crate) enum Step {
-    // each set subframe from the first to the last was listened to, with one reading for all sub-channels
-    Listen(u64, u64, u32),
-    // the readings of one subframe, and how many there are
-    Power(u64, [u32; 20], usize),
-    Sent(u64),
-    // subframe, resource, bytes and RSRP
-    Record(u64, u8, [u8; 4], i16),
-    // the same at all resources of each set subframe from the first to the last
-    Records(u64, u64, [u8; 4], i16),
+    At { subframe: u64, given: Given },
+    // the same in each set subframe of a range
+    Along { subframes: Range<u64>, given: Given },
     Ask(Question),
 }
 
 // What a line says.
-#[derive(Clone, Copy)]
+#[derive(Drop)]
 pub(crate) enum Line {
-    Nothing,
     Pool(Settings),
-    Offsets(u8, [u8; 3]),
+    Offsets(Offsets),
     Allow(u16),
     Now(u64),
     Do(Step),
 }
 
 // Why a line cannot be read.
-#[derive(Clone, Copy)]
+#[derive(Debug, Drop, Error)]
 pub(crate) enum Fault {
+    #[error("no such word, or not with so many values")]
     Word,
+    #[error("not a number, or too large a one")]
     Number,
+    #[error("too many values")]
     Many,
+    #[error("a bitmap has at most 104 digits 0 and 1")]
     Bit,
+    #[error("an interval code is from 1 to 16")]
     Code,
+    #[error("a record is eight hexadecimal digits")]
     Bytes,
-}
-
-impl fmt::Display for Fault {
-    fn fmt<W: fmt::Write>(&self, f: &mut fmt::Formatter<W>) -> fmt::Result {
-        f.write_str(match self {
-            Fault::Word => "no such word, or not with so many values",
-            Fault::Number => "not a number, or too large a one",
-            Fault::Many => "too many values",
-            Fault::Bit => "a bitmap has at most 104 digits 0 and 1",
-            Fault::Code => "an interval code is from 1 to 16",
-            Fault::Bytes => "a record is eight hexadecimal digits",
-        })
-    }
 }
 
 fn parsed<T: FromStr>(text: &str) -> Result<T, Fault>
 where
     T::Err: Drop,
 {
-    match text.parse::<T>() {
-        Ok(n) => Ok(n),
-        Err(_) => Err(Fault::Number),
-    }
+    text.parse().map_err(|_| Fault::Number)
 }
 
-// The bitmap's length and bytes, bit 0 the highest of byte 0.
-fn bitmap(text: &str) -> Result<(u8, [u8; 13]), Fault> {
-    let mut size = 0u8;
-    let mut bytes = [0u8; 13];
-    for digit in text.bytes() {
-        if size >= 104 {
-            return Err(Fault::Bit);
+// At most N numbers.
+fn numbers<T: FromStr + Default + Drop, const N: usize>(
+    words: &[&str],
+) -> Result<ArrayVec<T, N>, Fault>
+where
+    T::Err: Drop,
+{
+    let mut numbers = ArrayVec::new();
+    for word in words {
+        if numbers.is_full() {
+            return Err(Fault::Many);
         }
-        match digit {
-            b'0' => {}
-            b'1' => bytes[size as usize / 8] |= 128 >> (size % 8),
-            _ => return Err(Fault::Bit),
-        }
-        size += 1;
+        numbers.push(parsed(*word)?);
     }
-    Ok((size, bytes))
+    Ok(numbers)
 }
 
 // A pool without sync offsets that allows every interval, with one level for all priorities.
 fn other_pool(channels: &str, uplink: &str, bits: &str, level: &str) -> Result<Line, Fault> {
-    let (size, bytes) = bitmap(bits)?;
+    let Bitmap { size, bytes } = Bitmap::read(bits)
+        .filter(|bitmap| bitmap.size <= 104)
+        .ok_or(Fault::Bit)?;
     Ok(Line::Pool(Settings {
         channels: parsed(channels)?,
         uplink: parsed(uplink)?,
@@ -112,74 +119,72 @@ pub(crate) fn built_in() -> Settings {
 }
 
 fn offsets(words: &[&str]) -> Result<Line, Fault> {
-    let mut offsets = [0; 3];
-    let mut used = 0u8;
-    for word in words {
-        if used >= 3 {
-            return Err(Fault::Many);
-        }
-        offsets[used as usize] = parsed(*word)?;
-        used += 1;
+    let mut offsets = Offsets::default();
+    for offset in numbers::<u8, 3>(words)?.as_slice() {
+        offsets.push(*offset);
     }
-    Ok(Line::Offsets(used, offsets))
+    Ok(Line::Offsets(offsets))
 }
 
 // The interval mask: code c sets bit c - 1.
 fn allow(words: &[&str]) -> Result<Line, Fault> {
-    let mut mask = 0u16;
-    for word in words {
-        let code: u8 = parsed(*word)?;
-        if code < 1 || code > 16 {
-            return Err(Fault::Code);
-        }
-        mask |= 1 << (code - 1);
-    }
+    let mask = words.iter().try_fold(0, |mask, word| {
+        Ok(mask | code_bit(parsed(*word)?).ok_or(Fault::Code)?)
+    })?;
     Ok(Line::Allow(mask))
 }
 
+// From the first subframe to the last.
+fn range(first: &str, last: &str) -> Result<Range<u64>, Fault> {
+    Ok(parsed(first)?..parsed::<u64>(last)?.saturating_add(1))
+}
+
+impl Heard {
+    fn read(bytes: &str, rsrp: &str) -> Result<Heard, Fault> {
+        Ok(Heard {
+            bytes: four_bytes(bytes).ok_or(Fault::Bytes)?,
+            rsrp: parsed(rsrp)?,
+        })
+    }
+}
+
 fn listen(first: &str, last: &str, reading: &str) -> Result<Step, Fault> {
-    Ok(Step::Listen(parsed(first)?, parsed(last)?, parsed(reading)?))
+    Ok(Step::Along {
+        subframes: range(first, last)?,
+        given: Given::Reading(parsed(reading)?),
+    })
 }
 
 fn power(subframe: &str, words: &[&str]) -> Result<Step, Fault> {
-    let mut readings = [0; 20];
-    let mut count = 0;
-    for word in words {
-        if count >= 20 {
-            return Err(Fault::Many);
-        }
-        readings[count] = parsed(*word)?;
-        count += 1;
-    }
-    Ok(Step::Power(parsed(subframe)?, readings, count))
+    let readings = numbers(words)?;
+    Ok(Step::At {
+        subframe: parsed(subframe)?,
+        given: Given::Readings(readings),
+    })
 }
 
-fn four_bytes(text: &str) -> Result<[u8; 4], Fault> {
-    if text.len() != 8 || text.starts_with('+') {
-        return Err(Fault::Bytes);
-    }
-    match u32::from_str_radix(text, 16) {
-        Ok(word) => Ok(word.to_be_bytes()),
-        Err(_) => Err(Fault::Bytes),
-    }
+fn sent(subframe: &str) -> Result<Step, Fault> {
+    Ok(Step::At {
+        subframe: parsed(subframe)?,
+        given: Given::Sent,
+    })
 }
 
-fn heard(subframe: &str, resource: &str, bytes: &str, rsrp: &str) -> Result<Step, Fault> {
-    Ok(Step::Record(
-        parsed(subframe)?,
-        parsed(resource)?,
-        four_bytes(bytes)?,
-        parsed(rsrp)?,
-    ))
+fn record(subframe: &str, resource: &str, bytes: &str, rsrp: &str) -> Result<Step, Fault> {
+    Ok(Step::At {
+        subframe: parsed(subframe)?,
+        given: Given::Record {
+            resource: parsed(resource)?,
+            heard: Heard::read(bytes, rsrp)?,
+        },
+    })
 }
 
-fn crowd(first: &str, last: &str, bytes: &str, rsrp: &str) -> Result<Step, Fault> {
-    Ok(Step::Records(
-        parsed(first)?,
-        parsed(last)?,
-        four_bytes(bytes)?,
-        parsed(rsrp)?,
-    ))
+fn records(first: &str, last: &str, bytes: &str, rsrp: &str) -> Result<Step, Fault> {
+    Ok(Step::Along {
+        subframes: range(first, last)?,
+        given: Given::Records(Heard::read(bytes, rsrp)?),
+    })
 }
 
 // A question: its length, interval code, turns, priority, T1 and T2.
@@ -197,27 +202,31 @@ fn question(words: &[&str]) -> Result<Step, Fault> {
     }))
 }
 
-// What is given to a memory, or asked.
-fn given(words: &[&str]) -> Result<Step, Fault> {
-    match words {
-        ["listen", first, last, reading] => listen(*first, *last, *reading),
-        ["power", subframe, readings @ ..] => power(*subframe, readings),
-        ["sent", subframe] => Ok(Step::Sent(parsed(*subframe)?)),
-        ["record", subframe, resource, bytes, rsrp] => heard(*subframe, *resource, *bytes, *rsrp),
-        ["records", first, last, bytes, rsrp] => crowd(*first, *last, *bytes, *rsrp),
-        ["ask", values @ ..] => question(values),
-        _ => Err(Fault::Word),
+impl Step {
+    // What is given to a memory, or asked.
+    fn read(words: &[&str]) -> Result<Step, Fault> {
+        match words {
+            ["listen", first, last, reading] => listen(*first, *last, *reading),
+            ["power", subframe, readings @ ..] => power(*subframe, readings),
+            ["sent", subframe] => sent(*subframe),
+            ["record", subframe, resource, bytes, rsrp] => record(
+                *subframe, *resource, *bytes, *rsrp,
+            ),
+            ["records", first, last, bytes, rsrp] => records(*first, *last, *bytes, *rsrp),
+            ["ask", values @ ..] => question(values),
+            _ => Err(Fault::Word),
+        }
     }
 }
 
-// What the words of a line say.
-pub(crate) fn said(words: &[&str]) -> Result<Line, Fault> {
-    match words {
-        [] => Ok(Line::Nothing),
-        ["pool", channels, uplink, bits, level] => other_pool(*channels, *uplink, *bits, *level),
-        ["offsets", values @ ..] => offsets(values),
-        ["allow", codes @ ..] => allow(codes),
-        ["now", subframe] => Ok(Line::Now(parsed(*subframe)?)),
-        _ => Ok(Line::Do(given(words)?)),
-    }
+// What the words of a line say; none on an empty line.
+pub(crate) fn said(words: &[&str]) -> Result<Option<Line>, Fault> {
+    Ok(Some(match words {
+        [] => return Ok(None),
+        ["pool", channels, uplink, bits, level] => other_pool(*channels, *uplink, *bits, *level)?,
+        ["offsets", values @ ..] => offsets(values)?,
+        ["allow", codes @ ..] => allow(codes)?,
+        ["now", subframe] => Line::Now(parsed(*subframe)?),
+        _ => Line::Do(Step::read(words)?),
+    }))
 }

@@ -6,7 +6,8 @@ use answer::Refusal;
 use anyhow::anyhow;
 use choosing::Question;
 use choosing::finds::candidates;
-use lines::{Line, Step, built_in, said};
+use console::Offsets;
+use lines::{Given, Line, Step, built_in, said};
 use memory::dense::Dense;
 use memory::entries::Entry;
 use memory::rows::Row;
@@ -15,9 +16,10 @@ use memory::{dense, sparse};
 use pool::{Pool, Settings};
 use selecting::chooses::choose;
 use selecting::{Raise, Report};
-use sensing::{Asking, Held, Keeping, Kept, State};
+use sensing::{Asking, Held, Keeping, State};
 use std::alloc::Global;
 use std::io;
+use std::ops::Range;
 
 mod lines;
 
@@ -41,57 +43,13 @@ struct Scene {
     steps: Vec<Step>,
 }
 
-// The number of an answer.
-fn answered<T: Drop>(answer: Result<T, Refusal>) -> u8 {
-    match answer {
-        Ok(_) => 0,
-        Err(refusal) => refusal.number(),
-    }
-}
-
-// What a memory answers where it is given something at a subframe.
-fn give_at<M: Keeping>(pool: &Pool, m: &mut M, subframe: u64, step: Step) -> u8 {
-    let Some(index) = pool.index(subframe) else {
-        return Refusal::Unset.number();
-    };
-    match step {
-        Step::Listen(_, _, reading) => {
-            let n = usize::from(pool.channels().min(20));
-            answered(m.keep_readings(index, &[reading; 20][..n]))
-        }
-        Step::Power(_, readings, n) => answered(m.keep_readings(index, &readings[..n.min(20)])),
-        Step::Sent(_) => answered(m.mark_sent(index)),
-        Step::Record(_, resource, bytes, rsrp) => answered(m.keep_record(
-            index, resource, bytes, rsrp,
-        )),
-        Step::Records(_, _, bytes, rsrp) => {
-            let mut number = 0;
-            for resource in 0..pool.channels() {
-                number = answered(m.keep_record(index, resource, bytes, rsrp)).max(number);
-            }
-            number
-        }
-        Step::Ask(_) => 0,
-    }
-}
-
-// What it answers to a step: the largest number, of all set subframes where the step has a range of them.
-fn give<M: Keeping>(pool: &Pool, m: &mut M, step: Step) -> u8 {
-    let (first, last) = match step {
-        Step::Listen(first, last, _) => (first, last),
-        Step::Records(first, last, _, _) => (first, last),
-        Step::Power(subframe, _, _) => return give_at(pool, m, subframe, step),
-        Step::Sent(subframe) => return give_at(pool, m, subframe, step),
-        Step::Record(subframe, _, _, _) => return give_at(pool, m, subframe, step),
-        Step::Ask(_) => return 0,
-    };
-    let mut number = 0;
-    for subframe in first..last.saturating_add(1) {
-        if pool.index(subframe).is_some() {
-            number = give_at(pool, m, subframe, step).max(number);
-        }
-    }
-    number
+// A unit at one subframe: its pool, its memory, and the raise that its selections share.
+#[derive(Drop)]
+struct Unit<'p, 'm, M> {
+    pool: &'p Pool,
+    memory: &'m mut M,
+    at: u64,
+    raise: Raise,
 }
 
 // The raise, the size and the places of a report, a line each.
@@ -99,50 +57,91 @@ fn write_report(text: &mut String, report: &Report) -> anyhow::Result<()> {
     let raise = report.raise();
     let size = report.size();
     writeln!(text, "raise {raise} size {size}")?;
-    for i in 0..size {
-        if let Ok((subframe, channel)) = report.place(i) {
-            writeln!(text, "{subframe} {channel}")?;
-        }
+    for (subframe, channel) in (0..size).filter_map(|i| report.place(i).ok()) {
+        writeln!(text, "{subframe} {channel}")?;
     }
     Ok(())
 }
 
-// Puts a question and writes what it finds.
-fn ask<M: Keeping>(
-    text: &mut String,
-    pool: &Pool,
-    at: u64,
-    m: &M,
-    q: &Question,
-    raise: &mut Raise,
-) -> anyhow::Result<()> {
-    if let Ok(found) = candidates(pool, at, q) {
-        let many = found.count();
-        let subframes = found.slots().len();
-        writeln!(text, "candidates {many} in {subframes} subframes")?;
+impl<M: Keeping> Unit<'_, '_, M> {
+    // Gives the memory something at an index. Of the refusals of records at all resources, the one of the largest number.
+    fn keep(&mut self, index: u64, given: &Given) -> Option<Refusal> {
+        let m = &mut *self.memory;
+        match given {
+            Given::Reading(reading) => {
+                let n = usize::from(self.pool.channels().min(20));
+                m.keep_readings(index, &[*reading; 20][..n]).err()
+            }
+            Given::Readings(readings) => m.keep_readings(index, readings.as_slice()).err(),
+            Given::Sent => m.mark_sent(index).err(),
+            Given::Record { resource, heard } => m
+                .keep_record(index, *resource, heard.bytes, heard.rsrp)
+                .err(),
+            Given::Records(heard) => (0..self.pool.channels())
+                .filter_map(|resource| {
+                    m.keep_record(index, resource, heard.bytes, heard.rsrp)
+                        .err()
+                })
+                .max_by_key(|refusal| refusal.number()),
+        }
     }
-    match choose(pool, at, m, q, raise) {
-        Ok(report) => write_report(text, &report)?,
-        Err(refusal) => writeln!(text, "refused {refusal}")?,
+
+    // The same in the set subframes of a range; of the refusals, the one of the largest number.
+    fn keep_along(&mut self, subframes: &Range<u64>, given: &Given) -> Option<Refusal> {
+        let pool = self.pool;
+        (subframes.start..subframes.end)
+            .filter_map(|subframe| pool.index(subframe))
+            .filter_map(|index| self.keep(index, given))
+            .max_by_key(|refusal| refusal.number())
     }
-    Ok(())
+
+    // Puts a question and writes what it finds.
+    fn ask(&mut self, text: &mut String, q: &Question) -> anyhow::Result<()> {
+        if let Ok(found) = candidates(self.pool, self.at, q) {
+            let many = found.count();
+            let subframes = found.slots().len();
+            writeln!(text, "candidates {many} in {subframes} subframes")?;
+        }
+        match choose(self.pool, self.at, &*self.memory, q, &mut self.raise) {
+            Ok(report) => write_report(text, &report)?,
+            Err(refusal) => writeln!(text, "refused {refusal}")?,
+        }
+        Ok(())
+    }
 }
 
 // What a scene says over a new memory.
-fn play<M: Keeping>(heap: Global, pool: &Pool, scene: &Scene, m: &mut M) -> anyhow::Result<String> {
+fn play<M: Keeping>(
+    heap: Global,
+    pool: &Pool,
+    scene: &Scene,
+    memory: &mut M,
+) -> anyhow::Result<String> {
     let mut text = String::new(heap);
-    let mut raise = Raise::new();
-    let slid = answered(m.slide(pool.next_index(scene.at)));
-    if slid != 0 {
-        writeln!(text, "not slid: {slid:02}")?;
+    if let Err(refusal) = memory.slide(pool.next_index(scene.at)) {
+        let number = refusal.number();
+        writeln!(text, "not slid: {number:02}")?;
     }
+    let mut unit = Unit {
+        pool,
+        memory,
+        at: scene.at,
+        raise: Raise::new(),
+    };
     for step in scene.steps.iter() {
-        if let Step::Ask(q) = step {
-            ask(&mut text, pool, scene.at, m, q, &mut raise)?;
-            continue;
-        }
-        let number = give(pool, m, *step);
-        if number != 0 {
+        let refused = match step {
+            Step::Ask(q) => {
+                unit.ask(&mut text, q)?;
+                None
+            }
+            Step::At { subframe, given } => match pool.index(*subframe) {
+                Some(index) => unit.keep(index, given),
+                None => Some(Refusal::Unset),
+            },
+            Step::Along { subframes, given } => unit.keep_along(subframes, given),
+        };
+        if let Some(refusal) = refused {
+            let number = refusal.number();
             writeln!(text, "not kept: {number:02}")?;
         }
     }
@@ -154,42 +153,36 @@ const BLANK: Row = Row {
     state: State::Blank,
 };
 
-fn over_dense(heap: Global, pool: &Pool, scene: &Scene) -> anyhow::Result<String> {
+// What a scene says over a memory of each kind, the dense one first. Both are lent the same rows and readings, one after
+// the other.
+fn over_both(heap: Global, pool: &Pool, scene: &Scene) -> anyhow::Result<(String, String)> {
     let n = pool.channels();
     let window = u64::from(pool.window());
     let mut rows = [BLANK; 1001];
     let mut readings = [0u32; 20020];
     let mut held: [Option<Held>; 20020] = [None; 20020];
-    let Ok(()) = dense::fits(n, window, &rows, &readings, &held) else {
-        return Ok(String::new(heap));
+    let mut listed: [Option<Entry>; 400] = [None; 400];
+    let (Ok(()), Ok(())) = (
+        dense::fits(n, window, &rows, &readings, &held),
+        sparse::fits(n, window, &rows, &readings, &listed),
+    ) else {
+        return Ok((String::new(heap), String::new(heap)));
     };
     let mut m = Dense::new(n, window, &mut rows, &mut readings, &mut held);
-    play(heap, pool, scene, &mut m)
-}
-
-fn over_sparse(heap: Global, pool: &Pool, scene: &Scene) -> anyhow::Result<String> {
-    let n = pool.channels();
-    let window = u64::from(pool.window());
-    let mut rows = [BLANK; 1001];
-    let mut readings = [0u32; 20020];
-    let mut listed: [Option<Entry>; 400] = [None; 400];
-    let Ok(()) = sparse::fits(n, window, &rows, &readings, &listed) else {
-        return Ok(String::new(heap));
-    };
+    let dense = play(heap, pool, scene, &mut m)?;
     let mut m = Sparse::new(n, window, &mut rows, &mut readings, &mut listed);
-    play(heap, pool, scene, &mut m)
+    let sparse = play(heap, pool, scene, &mut m)?;
+    Ok((dense, sparse))
 }
 
 // Plays a scene over a memory of each kind, and prints what it says.
 fn show(rt: &HostRuntime, scene: &Scene) -> anyhow::Result<()> {
-    let heap = rt.alloc();
     let mut pool = Pool::built_in();
     if let Err(refusal) = pool.configure(&scene.settings) {
         println!(rt; "refused {refusal}")?;
         return Ok(());
     }
-    let dense = over_dense(heap, &pool, scene)?;
-    let sparse = over_sparse(heap, &pool, scene)?;
+    let (dense, sparse) = over_both(rt.alloc(), &pool, scene)?;
     print!(rt; "{dense}")?;
     if dense != sparse {
         println!(rt; "over the sparse memory:")?;
@@ -202,16 +195,16 @@ impl Scene {
     // Takes a line into account; a pool begins another scene, and the one before it is played.
     fn take(&mut self, rt: &HostRuntime, line: Line) -> anyhow::Result<()> {
         match line {
-            Line::Nothing => {}
             Line::Pool(settings) => {
                 show(rt, self)?;
                 self.settings = settings;
                 self.at = START;
                 self.steps.clear();
             }
-            Line::Offsets(used, offsets) => {
+            Line::Offsets(offsets) => {
+                let Offsets { used, values } = offsets;
                 self.settings.used = used;
-                self.settings.offsets = offsets;
+                self.settings.offsets = values;
             }
             Line::Allow(mask) => self.settings.intervals = mask,
             Line::Now(at) => self.at = at,
@@ -239,9 +232,9 @@ fn run(rt: &HostRuntime) -> anyhow::Result<()> {
             continue;
         }
         let words: Vec<&str> = line.split_whitespace().collect(heap)?;
-        match said(words.as_slice()) {
-            Ok(line) => scene.take(rt, line)?,
-            Err(fault) => return Err(anyhow!(format!(in heap; "{fault}: `{line}`")?)),
+        let said = said(words.as_slice()).map_err(|fault| anyhow!("{fault}: `{line}`"))?;
+        if let Some(line) = said {
+            scene.take(rt, line)?;
         }
     }
     show(rt, &scene)
