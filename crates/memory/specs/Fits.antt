@@ -9,12 +9,12 @@ pub record FitsRing (n w rows readings : ℕ) : Type 0 where
   pub long : w < rows
   pub wide : (w + 1) * n ≤ readings
 
--- and of as many places, which a dense memory takes
+-- the same with as many places as readings, for a dense memory
 pub record Fits (n w rows readings places : ℕ) : Type 0 where
   pub ring : FitsRing n w rows readings
   pub deep : (w + 1) * n ≤ places
 
--- and of one place, which a sparse memory takes
+-- the same with one place, for a sparse memory
 pub record Fitting (n w rows readings places : ℕ) : Type 0 where
   pub ring : FitsRing n w rows readings
   pub deep : 1 ≤ places

@@ -159,7 +159,7 @@ impl<'a> Ring<'a> {
         true
     }
 
-    // Gives the index a state, and its row the index's stamp.
+    // Marks the index as sent in, and stamps its row with it.
     pub(crate) fn mark_sent(&mut self, index: u64)
         requires { index ≤ self.old.next }
         ensures { Written index Sent was_sent self.old self.new }
@@ -171,7 +171,7 @@ impl<'a> Ring<'a> {
         };
     }
 
-    // Keeps the readings of all sub-channels at the index.
+    // Keeps the readings of all sub-channels at the index, and stamps its row with it.
     pub(crate) fn keep_readings(&mut self, index: u64, new: &[u32])
         requires upto { index ≤ self.old.next }
         requires many { length new.now ≡ self.old.channels }
