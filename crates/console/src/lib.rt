@@ -36,6 +36,7 @@ pub fn code_bit(code: u8) -> Option<u16>
 }
 
 // Sync offsets, as a pool is asked for: how many there are, and the first three.
+// The count stands beside the values, since a pool may be asked for with more than three, and refuses it.
 #[derive(Clone, Copy, Default, PartialEq, Eq, Debug)]
 pub struct Offsets {
     pub used: u8,
@@ -56,6 +57,7 @@ impl Offsets {
 }
 
 // A bitmap, as a pool is asked for: how many bits there are, and the bytes of the first 104, bit 0 the highest of byte 0.
+// The size stands beside the bytes, since a pool may be asked for with more bits than they hold, and refuses it.
 #[derive(Clone, Copy, PartialEq, Eq, Debug)]
 pub struct Bitmap {
     pub size: u8,
