@@ -10,12 +10,9 @@ ghost use Rattle.choosing.specs.Asked.{question_of};
 ghost use Rattle.choosing.specs.Blinds.{Marked, by_turn, by_one, by_code, by_index, BlindedAre};
 
 use crate::turns::{is_turn, repeats};
-use crate::{Candidates, Question};
+use crate::{Candidates, LATEST, Question};
 use pool::Pool;
 use sensing::{Asking, State};
-
-// Far past every index of a unit, so that no sum wraps.
-const LATEST: u64 = 1 << 63;
 
 // Marks the subframes for which t is a turn.
 fn mark_turn(flags: &mut [bool; 100], c: &Candidates, apart: u64, turns: u64, t: u64)

@@ -8,6 +8,9 @@ pub mod checks;
 pub mod finds;
 pub mod turns;
 
+// Far past every index and subframe of a unit, so that no sum wraps.
+pub const LATEST: u64 = 1 << 63;
+
 // What a scheduler asks for: L sub-channels, an interval code, C turns, a priority, and T1 and T2.
 #[derive(Clone, Copy)]
 pub struct Question {
@@ -27,6 +30,7 @@ pub struct Slot {
 }
 
 // The candidates of a question: each of the slots in use, with each first sub-channel below the width.
+// The slots have a count beside them, since the type is Copy and the list type of arrayvec is not.
 #[derive(Clone, Copy)]
 pub struct Candidates {
     slots: [Slot; 100],
