@@ -6,8 +6,9 @@ use Rattle.rules.specs.Sensing.{Cell, blank, listened, sent, Mark, is_blank, is_
 use Rattle.sensing.specs.Memories.{mark_of}
 use Rattle.sensing.specs.declared.State.{State}
 use Rattle.sensing.specs.declared.State.TheVariants.{Blank, Listened, Sent}
-use Rattle.choosing.specs.Blinds.{Marked, index_at}
-use Rattle.choosing.specs.declared.Candidates.{Candidates}
+use Rattle.choosing.specs.Blinds.{Marked}
+use Rattle.choosing.specs.Fits.{index_of}
+use Rattle.choosing.specs.declared.Slot.{Slot}
 
 pub or_assoc : (a b c : Bool) → ((a || b) || c) ≡ (a || (b || c))
 or_assoc true b c = refl
@@ -26,19 +27,22 @@ more f a (suc n) =
 pub any_more : (f : ℕ → Bool) (a n i : ℕ) → i ≡ a + n → any f (range_with_len a (n + 1)) ≡ (any f (range_with_len a n) || f i)
 any_more f a n i e = ap (λ m. any f (range_with_len a m)) (add-one n) ∙ more f a n ∙ ap (λ j. any f (range_with_len a n) || f j) (sym e)
 
--- marks by one test and then by another are marks by the test that passes where one of them does
-pub marked_both : (c : Candidates) (f g h : ℕ → Bool) (xs ys zs : List Bool) → ((y : ℕ) → h y ≡ (f y || g y)) → Marked c f xs ys → Marked c g ys zs → Marked c h xs zs
-marked_both c f g h xs ys zs e p q i l =
-    q i l
-    ∙ ap (λ b. b || g (index_at c i)) (p i l)
-    ∙ or_assoc (get_or xs i false) (f (index_at c i)) (g (index_at c i))
-    ∙ ap (λ b. get_or xs i false || b) (sym (e (index_at c i)))
+module _ (slots : List Slot) where
+  pub marked_same : (f h : ℕ → Bool) (xs ys : List Bool) → ((y : ℕ) → h y ≡ f y) → Marked slots f xs ys → Marked slots h xs ys
+  marked_same f h xs ys e p i l = p i l ∙ ap (λ b. get_or xs i false || b) (sym (e (index_of slots i)))
 
-pub marked_same : (c : Candidates) (f h : ℕ → Bool) (xs ys : List Bool) → ((y : ℕ) → h y ≡ f y) → Marked c f xs ys → Marked c h xs ys
-marked_same c f h xs ys e p i l = p i l ∙ ap (λ b. get_or xs i false || b) (sym (e (index_at c i)))
+  pub marked_none : (h : ℕ → Bool) (xs : List Bool) → ((y : ℕ) → h y ≡ false) → Marked slots h xs xs
+  marked_none h xs e i l = sym (ap (λ b. get_or xs i false || b) (e (index_of slots i)) ∙ or_none (get_or xs i false))
 
-pub marked_none : (c : Candidates) (h : ℕ → Bool) (xs : List Bool) → ((y : ℕ) → h y ≡ false) → Marked c h xs xs
-marked_none c h xs e i l = sym (ap (λ b. get_or xs i false || b) (e (index_at c i)) ∙ or_none (get_or xs i false))
+  -- marks by the tests of n numbers from a on, and then by the test of the next number i
+  pub marked_more : (f : ℕ → ℕ → Bool) (a n m i : ℕ) (xs ys zs : List Bool) → i ≡ a + n → m ≡ n + 1 → Marked slots (λ y. any (λ k. f k y) (range_with_len a n)) xs ys → Marked slots (f i) ys zs → Marked slots (λ y. any (λ k. f k y) (range_with_len a m)) xs zs
+  marked_more f a n m i xs ys zs e e' p q j l =
+      let y = index_of slots j in
+      let so_far = any (λ k. f k y) (range_with_len a n) in
+      q j l
+      ∙ ap (λ b. b || f i y) (p j l)
+      ∙ or_assoc (get_or xs j false) so_far (f i y)
+      ∙ ap (λ b. get_or xs j false || b) (sym (any_more (λ k. f k y) a n i e) ∙ ap (λ t. any (λ k. f k y) (range_with_len a t)) (sym e'))
 
 -- a state that is not Listened says so of the cell
 pub not_listened : (c : Cell) (s : State) → mark_of s ≡ mark c → (s ≡ Listened → ⊥) → listened? c ≡ false
