@@ -1,8 +1,10 @@
 -- Numbers that are lifted, step by step. Assumes nothing.
-use Rattle.std.proofs.Common.{◌≡◌, ℕ, ◌≤◌, max, Bool, true, false, ◌&&◌, ◌||◌, ltb, List, get_or, sym, refl, ap, ◌∙◌, arith}
+use Rattle.std.proofs.Common.{◌≡◌, ℕ, ◌+◌, ◌≤◌, max, Bool, true, false, ◌&&◌, ◌||◌, ltb, List, get_or, sym, refl, ap, ◌∙◌, arith}
+use Rattle.std.specs.List.{range_with_len}
 use Rattle.std.proofs.lemmas.Bool.Decides.{nat_tests}
 use Rattle.rules.specs.Choose.{Place}
-use Rattle.choosing.proofs.Marking.{or_assoc, or_none}
+use Rattle.rules.specs.Counting.{any}
+use Rattle.choosing.proofs.Marking.{or_assoc, or_none, any_more}
 use Rattle.choosing.specs.Fits.{place_of}
 use Rattle.choosing.specs.declared.Slot.{Slot}
 use Rattle.reserving.specs.Needs.{at}
@@ -44,6 +46,12 @@ lifted_same slots f h xs ys e p i x r l k few = p i x r l k few ∙ ap (λ b. lt
 
 pub lifted_none : (slots : List Slot) (h : ℕ → Place → Bool) (xs : List (List ℕ)) → ((r : ℕ) (c : Place) → r ≤ 43 → h r c ≡ false) → Lifted slots h xs xs
 lifted_none slots h xs e i x r l k few = sym (ap (λ b. ltb r (at xs i x) || b) (e r (place_of slots i x) few) ∙ or_none (ltb r (at xs i x)))
+
+-- what is lifted by the tests of n numbers from a on, and then by the test of the next number i
+pub lifted_more : (slots : List Slot) (f : ℕ → ℕ → Place → Bool) (a n m i : ℕ) (xs ys zs : List (List ℕ)) → i ≡ a + n → m ≡ n + 1 → Lifted slots (λ r c. any (λ k. f k r c) (range_with_len a n)) xs ys → Lifted slots (f i) ys zs → Lifted slots (λ r c. any (λ k. f k r c) (range_with_len a m)) xs zs
+lifted_more slots f a n m i xs ys zs e e' =
+    lifted_both slots (λ r c. any (λ k. f k r c) (range_with_len a n)) (f i) (λ r c. any (λ k. f k r c) (range_with_len a m)) xs ys zs
+    (λ r c few. ap (λ t. any (λ k. f k r c) (range_with_len a t)) e' ∙ any_more (λ k. f k r c) a n i e)
 
 -- the same of one row
 pub row_same : (f h : ℕ → ℕ → Bool) (xs ys : List ℕ) → ((r x : ℕ) → h r x ≡ f r x) → RowLifted f xs ys → RowLifted h xs ys

@@ -23,16 +23,16 @@ abbrev pub by_share : ℕ → ℕ → ℕ → ℕ → ℕ → ℕ → Bool
 by_share wide first long need r x = nat_lt r need && share x wide first long
 
 -- below a need, the candidates that use one of the sub-channels in a turn at t
-abbrev pub by_turn : Question → ℕ → ℕ → ℕ → ℕ → ℕ → ℕ → Place → Bool
-by_turn q apart t first long need r c = nat_lt r need && (turn c.at apart q.turns t && share c.channel q.length first long)
+abbrev pub by_turn : Pool → Question → ℕ → ℕ → ℕ → ℕ → ℕ → Place → Bool
+by_turn p q t first long need r c = nat_lt r need && (turn c.at (interval p q) q.turns t && share c.channel q.length first long)
 
 -- below a need, the candidates that a record takes, heard at resource a and based at b
-abbrev pub by_base : Question → ℕ → Record → ℕ → ℕ → ℕ → ℕ → Place → Bool
-by_base q apart what a b need r c = nat_lt r need && takes q apart c what a b
+abbrev pub by_base : Pool → Question → Record → ℕ → ℕ → ℕ → ℕ → Place → Bool
+by_base p q what a b need r c = nat_lt r need && takes q (interval p q) c what a b
 
 -- the same for the first n of the bases z, z + d, ..
-abbrev pub by_bases : Question → ℕ → Record → ℕ → ℕ → ℕ → ℕ → ℕ → ℕ → Place → Bool
-by_bases q apart what a z d n need r c = nat_lt r need && any (λ k. takes q apart c what a (z + k * d)) (range_with_len 0 n)
+abbrev pub by_bases : Pool → Question → Record → ℕ → ℕ → ℕ → ℕ → ℕ → ℕ → Place → Bool
+by_bases p q what a z d n need r c = nat_lt r need && any (λ k. takes q (interval p q) c what a (z + k * d)) (range_with_len 0 n)
 
 -- a record reserves the candidate, heard at resource a of an index z that lies g before the next one
 abbrev pub by_held : Pool → Question → ℕ → ℕ → ℕ → Held → ℕ → Place → Bool
@@ -55,9 +55,3 @@ by_window p m q low n r c = any (λ z. by_index p m q m.channels z r c) (range_w
 -- the rows of the slots that have a flag are above all raises, and the others are as they were
 abbrev pub Flagged : List Bool → List (List ℕ) → List (List ℕ) → Type 0
 Flagged flags before after = (i x r : ℕ) → i < 100 → x < 20 → r ≤ 43 → nat_lt r (at after i x) ≡ (nat_lt r (at before i x) || slice_index_or flags i false)
-
--- what the slots, the question and the distance between two turns are for a pool
-pub record Ready (p : Pool) (slots : List Slot) (q : Question) (d : ℕ) : Type 0 where
-  pub few : length slots ≤ 100
-  pub apart : d ≡ interval p q
-  pub priority : q.priority ≤ 7

@@ -12,7 +12,7 @@ fn raises_over(over: u16) -> u8
     ensures value { (raise : ℕ) → nat_lt (30 * raise) over ≡ nat_lt raise result }
     ensures few { result ≤ 43 }
 {
-    ((over + 29) / 30) as u8
+    over.div_ceil(30) as u8
 }
 
 // The first raise at which an RSRP is not above the threshold of a level. Level 0 has none, and is given a number past
@@ -24,11 +24,8 @@ pub(crate) fn freed_at(level: u8, rsrp: i16) -> u8
     if level == 0 {
         return NEVER;
     }
-    let Some(threshold) = finite_level(level) else {
-        return 0;
-    };
-    if rsrp <= threshold {
-        return 0;
+    match finite_level(level) {
+        Some(threshold) if rsrp > threshold => raises_over(rsrp.abs_diff(threshold)),
+        _ => 0,
     }
-    raises_over((rsrp - threshold) as u16)
 }

@@ -13,15 +13,11 @@ mod freed;
 mod lifts;
 mod walks;
 
-use crate::lifts::Asked;
-use crate::walks::lift_window;
+use crate::walks::Walk;
 use choosing::blinds::blinded;
-use choosing::{Candidates, Question};
+use choosing::{Candidates, LATEST, Question, Search};
 use pool::Pool;
 use sensing::Asking;
-
-// Far past every index of a unit, so that no sum wraps.
-const LATEST: u64 = 1 << 63;
 
 // Past the last raise that changes anything: a candidate with this number survives at none.
 const NEVER: u8 = 44;
@@ -30,8 +26,8 @@ const NEVER: u8 = 44;
 fn lift_blinded(rows: &mut [[u8; 20]; 100], flags: &[bool; 100])
     ensures { Flagged flags.now rows.old rows.new }
 {
-    for i in 0..100 {
-        if flags[i] {
+    for (i, flag) in flags.iter().enumerate() {
+        if *flag {
             rows[i] = [NEVER; 20];
         }
     }
@@ -46,12 +42,11 @@ pub fn needs<M: Asking>(pool: &Pool, m: &M, q: &Question, c: &Candidates) -> [[u
         return [[NEVER; 20]; 100];
     }
     let mut rows = [[0; 20]; 100];
-    let asked = Asked {
-        slots: c.slots(),
-        question: *q,
-        apart: u64::from(pool.distance(q.code)),
+    let walk = Walk {
+        memory: m,
+        search: Search::new(pool, q, c),
     };
-    lift_window(pool, m, &mut rows, &asked);
+    walk.lift_window(&mut rows);
     let flags = blinded(pool, m, q, c);
     lift_blinded(&mut rows, &flags);
     rows

@@ -1,6 +1,6 @@
-use Rattle.std.proofs.Common.{◌≡◌, ℕ, ◌-◌, ◌<◌, ◌≤◌, Bool, true, false, not, ◌&&◌, ◌||◌, ltb, leb, List, [], length, get_or, replicate, sym, refl, ap, ◌∙◌, subst, arith}
+use Rattle.std.proofs.Common.{◌≡◌, ℕ, ◌-◌, ◌<◌, ◌≤◌, Bool, true, false, not, ◌&&◌, ◌||◌, ltb, leb, List, [], length, get_or, replicate, refl, ap, ◌∙◌, subst, arith}
 use Rattle.std.specs.List.{range_with_len}
-use Rattle.std.proofs.lemmas.List.{length-take, get_or-replicate, get_or-take}
+use Rattle.std.proofs.lemmas.List.{get_or-replicate}
 use Rattle.std.proofs.lemmas.Bool.{le-ltb}
 use Rattle.std.proofs.lemmas.Bool.Decides.{nat_tests}
 use Rattle.rules.specs.Calendar.{Pool}
@@ -9,11 +9,10 @@ use Rattle.rules.specs.Counting.{any}
 use Rattle.rules.specs.Sensing.{Meaning}
 use Rattle.pool.specs.Pools.{meaning}
 use Rattle.choosing.specs.Asked.{question_of}
-use Rattle.choosing.specs.Blinds.{index_at}
-use Rattle.choosing.specs.Fits.{Fit, place_of, index_of}
+use Rattle.choosing.specs.Fits.{Fit, place_of}
 use Rattle.choosing.specs.Found.{slots_of}
-use Rattle.choosing.specs.Slots.{origin}
-use Rattle.choosing.specs.declared.Candidates.{Candidates}
+use Rattle.choosing.specs.Searches.{asked, slots}
+use Rattle.choosing.specs.declared.Slot.{Slot}
 use Rattle.reserving.specs.Lifts.{Lifted, by_resource, by_window}
 use Rattle.reserving.specs.Needs.{at}
 use Rattle.reserving.proofs.needs.Goals as goal
@@ -50,25 +49,22 @@ all_reserved p m q r c fit =
     ap (λ n. any (λ z. any (λ a. by_resource p m q z a r c) (range_with_len 0 n)) (range_with_len (m.next - m.window) m.window)) fit.channels
     ∙ ap (λ w. any (λ z. any (λ a. by_resource p m q z a r c) (range_with_len 0 p.channels)) (range_with_len (m.next - w) w)) fit.window
 
--- a slot in use has the index that the flags are by
-flag_of : (p : Pool) (m : Meaning) (q : Question) (found : Candidates) (i : ℕ) (b : Bool) → i < found.count → b ≡ blinded p m q (index_at found i) → b ≡ blinded p m q (index_of (slots_of found) i)
-flag_of p m q found i b l e = e ∙ ap (λ s. blinded p m q s.index) (sym (get_or-take found.count found.slots i origin l))
-
 pub returns : goal.returns
 returns g c fit low i x r l k few =
+    let e = c.new.ensures in
+    let s = c.new.result in
     let m = g.M.Asking.meaning c.args.m.now in
     let p = meaning c.args.pool.now in
     let q = question_of c.args.q.now in
-    let found = c.args.c.now in
-    let place = place_of (slots_of found) i x in
+    let found = slots_of c.args.c.now in
+    let place = place_of found i x in
     let zeros : List (List ℕ) = replicate 100 (replicate 20 0) in
-    let test : ℕ → Place → Bool = by_window p m q (m.next - m.window) m.window in
-    let most : length (slots_of found) ≤ 100 = subst (λ s. length s ≤ 100) c.slots.ensures.value c.slots.ensures.few in
-    let count : i < found.count = omega (arith, length-take found.count found.slots) in
-    let lifted : Lifted (slots_of found) test zeros c.lift_window.new.rows = subst (λ s. Lifted s test zeros c.lift_window.new.rows) c.slots.ensures.value c.lift_window.ensures in
-    settled r (at zeros i x) (at c.lift_window.new.rows i x) (at c.lift_blinded.new.rows i x) (test r place) (reserved_at p m q r place) (get_or c.blinded-flags.result i false) (blinded p m q place.at)
+    let most : length found ≤ 100 = subst (λ xs. length xs ≤ 100) e.slots s.few in
+    let By : Pool → Question → List Slot → Type 0 = λ p q xs. Lifted xs (by_window p m q (m.next - m.window) m.window) zeros c.lift_window.new.rows in
+    let lifted : By p q found = subst (By p q) e.slots (subst (λ t. By p (question_of t) (slots s)) e.question (subst (λ t. By (meaning t) (asked s) (slots s)) e.pool c.lift_window.ensures)) in
+    settled r (at zeros i x) (at c.lift_window.new.rows i x) (at c.lift_blinded.new.rows i x) (by_window p m q (m.next - m.window) m.window r place) (reserved_at p m q r place) (get_or c.blinded-flags.result i false) (blinded p m q place.at)
     (empty i x r (omega arith) k)
     (lifted i x r l k few)
     (c.lift_blinded.ensures i x r (omega arith) k few)
     (all_reserved p m q r place fit)
-    (flag_of p m q found i (get_or c.blinded-flags.result i false) count (c.blinded-flags.ensures fit.early fit.window i count))
+    (c.blinded-flags.ensures fit.early fit.window i l)

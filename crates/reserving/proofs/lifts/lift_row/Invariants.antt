@@ -4,4 +4,4 @@ use Rattle.reserving.proofs.Walked.{Walked}
 use Rattle.reserving.proofs.lifts.lift_row.Given as goal
 
 abbrev pub invariant-loop-x : goal.invariant-loop-x
-invariant-loop-x l = Walked 0 (λ x a b. (r : ℕ) → ltb r b ≡ (ltb r a || by_share l.wide l.first l.many l.need r x)) l.x l.initial.row l.row × (length l.row ≡ 20)
+invariant-loop-x l = Walked 0 (λ x a b. (r : ℕ) → ltb r b ≡ (ltb r a || by_share l.wide l.taken.first l.taken.many l.need r x)) l.x l.initial.row l.row × (length l.row ≡ 20)
