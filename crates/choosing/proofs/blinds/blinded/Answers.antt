@@ -1,5 +1,6 @@
-use Rattle.std.proofs.Common.{◌≡◌, ℕ, ◌+◌, ◌-◌, ◌<◌, Bool, false, ◌||◌, List, length, replicate, sym, ap, ◌∙◌, subst, arith}
+use Rattle.std.proofs.Common.{◌≡◌, ℕ, ◌+◌, ◌-◌, ◌<◌, false, ◌||◌, List, length, get_or, replicate, sym, ap, ◌∙◌, subst, arith}
 use Rattle.std.specs.List.{range_with_len}
+use Rattle.std.proofs.lemmas.List.{get_or-replicate}
 use Rattle.rules.specs.Calendar.{Pool, window}
 use Rattle.rules.specs.Choose.{Question, blinds, blinded}
 use Rattle.rules.specs.Counting.{any}
@@ -9,7 +10,7 @@ use Rattle.choosing.specs.Fits.{index_of}
 use Rattle.choosing.specs.Found.{slots_of}
 use Rattle.choosing.specs.Searches.{pool_of, asked, slots}
 use Rattle.choosing.specs.declared.Slot.{Slot}
-use Rattle.choosing.proofs.Marking.{marked_more, all_false}
+use Rattle.choosing.proofs.Marking.{marked_more}
 use Rattle.choosing.proofs.blinds.blinded.Goals as goal
 
 pub loop-z-preserved : goal.loop-z-preserved
@@ -28,6 +29,8 @@ unfolding blinded
 returns g c early fits i l =
     let e = c.new-search.ensures in
     let s = c.new-search.result in
+    let inside : i < length (slots s) = subst (λ xs. i < length xs) (sym e.slots) l in
+    let few = s.few in
     let found = slots_of c.args.c.now in
     let m = g.M.Asking.meaning c.args.m.now in
     let p = meaning c.args.pool.now in
@@ -38,11 +41,10 @@ returns g c early fits i l =
     let old = (g.M.Asking.sound c.args.m.now).old in
     let first : low ≡ m.next - window p = omega arith in
     let many : c.loop-z.z - low ≡ window p = omega arith in
-    let by : Pool → Question → List Slot → ℕ → ℕ → Bool = λ p q xs a n. any (λ z. blinds p m q (index_of xs i) z) (range_with_len a n) in
-    c.loop-z.invariant i (subst (λ xs. i < length xs) (sym e.slots) l)
-    ∙ ap (λ b. b || by (pool_of s) (asked s) (slots s) low (c.loop-z.z - low)) (all_false 100 i)
-    ∙ ap (λ t. by (meaning t) (asked s) (slots s) low (c.loop-z.z - low)) e.pool
-    ∙ ap (λ t. by p (question_of t) (slots s) low (c.loop-z.z - low)) e.question
-    ∙ ap (λ xs. by p q xs low (c.loop-z.z - low)) e.slots
-    ∙ ap (λ a. by p q found a (c.loop-z.z - low)) first
-    ∙ ap (λ k. by p q found (m.next - window p) k) many
+    let blank : get_or (replicate 100 false) i false ≡ false = get_or-replicate 100 i false false (omega arith) in
+    let Said : Pool → Question → List Slot → ℕ → ℕ → Type 0 = λ p q xs a n. get_or c.loop-z.flags i false ≡ (get_or (replicate 100 false) i false || any (λ z. blinds p m q (index_of xs i) z) (range_with_len a n)) in
+    let walked : Said (pool_of s) (asked s) (slots s) low (c.loop-z.z - low) = c.loop-z.invariant i inside in
+    let by_question : Said p q (slots s) low (c.loop-z.z - low) = subst (λ t. Said p (question_of t) (slots s) low (c.loop-z.z - low)) e.question (subst (λ t. Said (meaning t) (asked s) (slots s) low (c.loop-z.z - low)) e.pool walked) in
+    let by_slots : Said p q found low (c.loop-z.z - low) = subst (λ xs. Said p q xs low (c.loop-z.z - low)) e.slots by_question in
+    let by_window : Said p q found (m.next - window p) (window p) = subst (Said p q found (m.next - window p)) many (subst (λ a. Said p q found a (c.loop-z.z - low)) first by_slots) in
+    by_window ∙ ap (λ b. b || any (λ z. blinds p m q (index_of found i) z) (range_with_len (m.next - window p) (window p))) blank

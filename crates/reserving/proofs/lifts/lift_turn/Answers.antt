@@ -3,7 +3,8 @@ use Rattle.rules.specs.Choose.{interval, turn, share}
 use Rattle.choosing.specs.Fits.{place_of, index_of}
 use Rattle.choosing.specs.Searches.{pool_of, asked, slots}
 use Rattle.reserving.specs.Lifts.{RowLifted, by_share, by_turn}
-use Rattle.reserving.proofs.Lifting.{row_same, row_none, and_none}
+use Rattle.std.proofs.Math.Bool.{and-false}
+use Rattle.reserving.proofs.Lifting.{row_same, row_none}
 use Rattle.reserving.proofs.Walked.{Walked, walked_set, walked_skip}
 use Rattle.reserving.proofs.lifts.lift_turn.Goals as goal
 use Rattle.reserving.proofs.lifts.lift_turn.Goals.{then-is_turn, else-is_turn}
@@ -38,7 +39,7 @@ loop-i-preserved c =
           let nowhere : now ≡ false = sym c.is_turn.ensures ∙ w.if-is_turn.false in (
             subst (λ ys. Walked [] R (i + 1) old ys) (sym w.rows-is)
                 (walked_skip [] R i old c.loop-i.rows walked
-                (row_none (test i) (get_or old i []) (λ r x. ap (λ b. ltb r a.need && (b && share x q.length taken.first taken.many)) nowhere ∙ and_none (ltb r a.need)))),
+                (row_none (test i) (get_or old i []) (λ r x. ap (λ b. ltb r a.need && (b && share x q.length taken.first taken.many)) nowhere ∙ and-false (ltb r a.need)))),
             ap length w.rows-is ∙ c.loop-i.invariant.1,
           )
     ]

@@ -1,4 +1,4 @@
-use Rattle.std.proofs.Common.{◌≡◌, ℕ, ◌+◌, ◌-◌, ◌*◌, ◌&&◌, ◌||◌, ltb, sym, refl, ap, ◌∙◌, arith, w16, SFits, rules}
+use Rattle.std.proofs.Common.{◌≡◌, ℕ, ◌+◌, ◌-◌, ◌*◌, ◌&&◌, ◌||◌, ltb, sym, ap, ◌∙◌, arith, w16, SFits, rules}
 use Rattle.std.specs.List.{range_with_len}
 use Rattle.std.proofs.lemmas.Int.{to_z-of_z}
 use Rattle.std.proofs.lemmas.Bool.{le-ltb}
@@ -11,7 +11,8 @@ use Rattle.choosing.proofs.Marking.{any_more}
 use Rattle.choosing.specs.Searches.{pool_of, asked, slots}
 use Rattle.reserving.specs.Lifts.{by_base, by_bases, by_held}
 use Rattle.reserving.proofs.Levelled.{levelled, has_level, same_bases}
-use Rattle.reserving.proofs.Lifting.{lifted_both, lifted_same, lifted_none, and_over_or, and_none}
+use Rattle.std.proofs.Math.Bool.{and-or_distrib_left, and-false}
+use Rattle.reserving.proofs.Lifting.{lifted_both, lifted_same, lifted_none}
 use Rattle.reserving.proofs.walks.Walk.lift_held.Goals as goal
 
 pub returns-in_default : goal.returns-in_default
@@ -41,14 +42,14 @@ one_more p q h a z d n m need r c e =
     let one : ℕ → _ = λ k. takes q (interval p q) c h.what a (z + k * d) in
     ap (λ m. ltb r need && any one (range_with_len 0 m)) e
     ∙ ap (λ b. ltb r need && b) (any_more one 0 n n (omega arith))
-    ∙ and_over_or (ltb r need) (any one (range_with_len 0 n)) (one n)
+    ∙ and-or_distrib_left (ltb r need) (any one (range_with_len 0 n)) (one n)
 
 pub loop-k-init : goal.loop-k-init
 loop-k-init g c =
     let a = c.args in
     let s = a.self.now.search in
     lifted_none (slots s) (by_bases (pool_of s) (asked s) (held_of a.held.now).what a.resource a.z c.from-d.result 0 c.freed_at-need.result) a.rows.now
-    (λ r p few. and_none (ltb r c.freed_at-need.result))
+    (λ r p few. and-false (ltb r c.freed_at-need.result))
 
 pub loop-k-preserved : goal.loop-k-preserved
 loop-k-preserved g c =
@@ -84,9 +85,8 @@ returns-else-need-eq0-2 g c =
     let far = ap (λ t. t - a.z) c.next_index.ensures in
     lifted_same (slots s) (by_bases p q h.what a.resource a.z d (n + 1) need) (by_held p q left a.z a.resource h) a.rows.now c.lift_base.new.rows
     (λ r x few.
-    same_bases q h.what a.resource a.z x (above (level_of p q.priority h.what.priority) r h.rsrp) (ltb r need) (interval p q) (interval p q) (distance p code) d (repeats p code left) n
+    same_bases q h.what a.resource a.z (interval p q) x (above (level_of p q.priority h.what.priority) r h.rsrp) (ltb r need) (distance p code) d (repeats p code left) n
     (ap (λ v. above v r h.rsrp) (sym value) ∙ loud r few)
-    refl
     (sym (c.from-d.ensures ∙ c.distance.ensures.value))
     (sym (c.repeats-k-end.ensures.value ∙ ap (repeats p code) far)))
     (lifted_both (slots s) (by_bases p q h.what a.resource a.z d k need) (by_base p q h.what a.resource (a.z + k * d) need) (by_bases p q h.what a.resource a.z d (n + 1) need) a.rows.now c.loop-k.rows c.lift_base.new.rows
