@@ -1,7 +1,8 @@
 // The mean S-RSSI of each candidate, as an exact fraction.
 #![tactic(auto)]
 
-ghost use Rattle.std.specs.Prelude.{◌≡◌, ℕ, ◌^◌, ◌<◌, ◌≤◌};
+ghost use Rattle.std.specs.Prelude.{◌≡◌, ℕ, ◌*◌, ◌^◌, ◌<◌, ◌≤◌, slice_index};
+ghost use Rattle.measuring.specs.Bounds.{most};
 
 pub mod means;
 mod sums;
@@ -20,4 +21,21 @@ pub struct Mean {
 #[derive(Clone, Copy)]
 pub struct MeanRow {
     pub means: [Option<Mean>; 20],
+}
+
+// The samples of a slot so far: the slot's index, how many there are, and the sum of their readings for each first sub-channel.
+#[derive(Clone, Copy)]
+pub(crate) struct Sum {
+    at: u64,
+    under: u32,
+    over: [u64; 20],
+    ghost few: { under ≤ 1000 },
+    ghost small: { (x : ℕ) → slice_index over x ≤ under * most },
+}
+
+// The readings of an index, added up for each first sub-channel.
+#[derive(Clone, Copy)]
+pub(crate) struct Powers {
+    from: [u64; 20],
+    ghost few: { (x : ℕ) → slice_index from x ≤ most },
 }
