@@ -17,7 +17,8 @@ pub struct Mean {
     ghost small: { over < 2 ^ 48 },
 }
 
-// The means at one slot, by first sub-channel.
+// The means at one slot, by first sub-channel: a struct of its own, since tried as an array of arrays its rows cannot be borrowed
+// one by one, for their elements have an invariant.
 #[derive(Clone, Copy)]
 pub struct MeanRow {
     pub means: [Option<Mean>; 20],
