@@ -5,6 +5,7 @@ use Rattle.std.specs.List.{range_with_len, flat_map, AllByRecursion}
 use Rattle.std.proofs.lemmas.List.FromFn.{fill_by_all}
 use Rattle.std.proofs.ByRecursion.{All-append, All-get_or, All-map, All-weaker}
 use Rattle.std.proofs.lemmas.List.{map-append}
+use Rattle.std.proofs.lemmas.List.Folds.{flat_map-map}
 use Rattle.std.proofs.lemmas.Bool.{cases_Bool, and_parts}
 use Rattle.rules.specs.Calendar.{Pool, in_set, in_pool, index}
 use Rattle.rules.specs.Choose.{Question, Place as Meant, across, joined_all, subframes, candidates}
@@ -24,10 +25,6 @@ map_joined : {X Y Z : Type 0} (f : Y → Z) (g : X → List Y) (h : X → List Z
 map_joined f g h [] e = refl
 map_joined f g h (x ∷ xs) e = map-append f (g x) (flat_map g xs) ∙ ap (λ ys. ys ++ map f (flat_map g xs)) (e x) ∙ ap (λ ys. h x ++ ys) (map_joined f g h xs e)
 
-joined_map : {X Y Z : Type 0} (f : X → Y) (h : Y → List Z) (xs : List X) → flat_map h (map f xs) ≡ flat_map (λ x. h (f x)) xs
-joined_map f h [] = refl
-joined_map f h (x ∷ xs) = ap (λ ys. h (f x) ++ ys) (joined_map f h xs)
-
 joined_is : {X Z : Type 0} (h : X → List Z) (xs : List X) → joined_all (map h xs) ≡ flat_map h xs
 joined_is h [] = refl
 joined_is h (x ∷ xs) = ap (λ ys. h x ++ ys) (joined_is h xs)
@@ -35,7 +32,7 @@ joined_is h (x ∷ xs) = ap (λ ys. h x ++ ys) (joined_is h xs)
 -- by the places of a list, and by the list
 joined_places : {X Z : Type 0} (h : X → List Z) (d : X) (xs : List X) → flat_map (λ i. h (get_or xs i d)) (range_with_len 0 (length xs)) ≡ flat_map h xs
 joined_places h d xs =
-    sym (joined_map (λ i. get_or xs i d) h (range_with_len 0 (length xs))) ∙ ap (flat_map h) (sym (fill_by_all (λ i. get_or xs i d) xs (length xs) d refl (λ k l. refl)))
+    sym (flat_map-map h (λ i. get_or xs i d) (range_with_len 0 (length xs))) ∙ ap (flat_map h) (sym (fill_by_all (λ i. get_or xs i d) xs (length xs) d refl (λ k l. refl)))
 
 abbrev places : ℕ → ℕ → List Meant
 places width y = map (λ x. record { channel = x; at = y }) (range_with_len 0 width)
@@ -49,7 +46,7 @@ module _ (p : Pool) (now : ℕ) (q : Question) (slots : List Slot) (width : ℕ)
       ∙ joined_places (λ (s : Slot). places width s.index) origin slots
       ∙ ap (λ w. flat_map (λ (s : Slot). places w s.index) slots) wide
       ∙ ap (flat_map (λ (s : Slot). across p q s.index)) are
-      ∙ joined_map (slot_at p) (λ (s : Slot). across p q s.index) (subframes p now q)
+      ∙ flat_map-map (λ (s : Slot). across p q s.index) (slot_at p) (subframes p now q)
       ∙ sym (joined_is (λ s. across p q (index p s)) (subframes p now q))
 
 -- what holds of each counted number

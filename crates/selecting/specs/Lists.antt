@@ -9,7 +9,12 @@ use Rattle.selecting.specs.declared.Entry.{Entry}
 
 -- the entry of a slot at a first sub-channel, with its numbers
 abbrev pub entry_at : Slot → List ℕ → MeanRow → ℕ → Entry
-entry_at s needs means x = record { slot = s; channel = x; need = slice_index needs x; mean = slice_index_or means.means x None }
+entry_at s needs means x =
+    record {
+      place = record { subframe = s.subframe; index = s.index; channel = x };
+      need = slice_index needs x;
+      mean = slice_index_or means.means x None;
+    }
 
 -- the entries of a slot
 abbrev pub row_of : List Slot → ℕ → List (List ℕ) → List MeanRow → ℕ → List Entry
