@@ -1,10 +1,11 @@
-// Lifting the numbers of candidates that a record reserves.
+// Lifting the needs of candidates that a record reserves.
 ghost use Rattle.std.specs.Prelude.{◌≡◌, ◌+◌, ◌-◌, ◌^◌, ◌<◌, ◌≤◌};
 ghost use Rattle.rules.specs.Choose.{share, partner_of};
 ghost use Rattle.format1.specs.Records.{meant_of};
 ghost use Rattle.choosing.specs.Searches.{pool_of, asked, slots};
 ghost use Rattle.reserving.specs.Lifts.{RowLifted, Lifted, by_share, by_turn, by_base};
 
+use crate::Need;
 use choosing::Search;
 use format1::Record;
 
@@ -25,8 +26,8 @@ impl Span {
     }
 }
 
-// Lifts the numbers of the first sub-channels from which `wide` ones share one with those that are taken.
-fn lift_row(row: &mut [u8; 20], wide: u8, taken: Span, need: u8)
+// Lifts the needs of the first sub-channels from which `wide` ones share one with those that are taken.
+fn lift_row(row: &mut [Need; 20], wide: u8, taken: Span, need: Need)
     ensures { RowLifted (by_share wide taken.first taken.many need) row.old row.new }
 {
     for (x, own) in row.iter_mut().enumerate() {
@@ -41,7 +42,7 @@ fn lift_row(row: &mut [u8; 20], wide: u8, taken: Span, need: u8)
 }
 
 // Lifts the candidates for which t is a turn, if they use one of the sub-channels that are taken.
-fn lift_turn(rows: &mut [[u8; 20]; 100], search: &Search, t: u64, taken: Span, need: u8)
+fn lift_turn(rows: &mut [[Need; 20]; 100], search: &Search, t: u64, taken: Span, need: Need)
     ensures { Lifted (slots search.now) (by_turn (pool_of search.now) (asked search.now) t taken.first taken.many need) rows.old rows.new }
 {
     // By place, since a proof knows nothing of the rows after a loop over `rows.iter_mut().zip(..)`.
@@ -70,12 +71,12 @@ fn partner(what: &Record, b: u64) -> Option<u64>
 
 // Lifts the candidates that a record takes, which was heard at a resource and is based at b.
 pub(crate) fn lift_base(
-    rows: &mut [[u8; 20]; 100],
+    rows: &mut [[Need; 20]; 100],
     search: &Search,
     what: &Record,
     resource: u8,
     b: u64,
-    need: u8,
+    need: Need,
 )
     requires { b < 2 ^ 64 - 2 ^ 8 }
     ensures { Lifted (slots search.now) (by_base (pool_of search.now) (asked search.now) (meant_of what.now) resource b need) rows.old rows.new }

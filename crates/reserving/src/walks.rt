@@ -1,10 +1,11 @@
-// Lifting the numbers of candidates that the records of a memory reserve.
+// Lifting the needs of candidates that the records of a memory reserve.
 ghost use Rattle.std.specs.Prelude.{◌≡◌, ◌-◌, ◌^◌, ◌<◌, ◌≤◌, true};
 ghost use Rattle.rules.specs.Sensing.{Inside, rsrp_ok};
 ghost use Rattle.sensing.specs.Memories.{held_of};
 ghost use Rattle.choosing.specs.Searches.{pool_of, asked, slots};
 ghost use Rattle.reserving.specs.Lifts.{Lifted, by_held, by_resource, by_index, by_window};
 
+use crate::Need;
 use crate::freed::freed_at;
 use crate::lifts::lift_base;
 use choosing::Search;
@@ -22,7 +23,7 @@ pub(crate) struct Walk<'a, M: Asking> {
 
 impl<M: Asking> Walk<'_, M> {
     // Lifts the candidates that a record reserves, which was heard at a resource of an index.
-    fn lift_held(&self, rows: &mut [[u8; 20]; 100], held: &Held, z: u64, resource: u8)
+    fn lift_held(&self, rows: &mut [[Need; 20]; 100], held: &Held, z: u64, resource: u8)
         requires inside { Inside (M.meaning self.now.memory.now) z }
         requires priority { held.now.what.priority ≤ 7 }
         requires rsrp { rsrp_ok held.now.rsrp ≡ true }
@@ -34,7 +35,7 @@ impl<M: Asking> Walk<'_, M> {
             return;
         };
         let need = freed_at(level, held.rsrp);
-        if need == 0 {
+        if need == Need::From(0) {
             return;
         }
         let d = u64::from(search.pool.distance(what.code));
@@ -45,7 +46,7 @@ impl<M: Asking> Walk<'_, M> {
     }
 
     // Lifts the candidates that what is held at a resource of an index reserves.
-    fn lift_resource(&self, rows: &mut [[u8; 20]; 100], z: u64, resource: u8)
+    fn lift_resource(&self, rows: &mut [[Need; 20]; 100], z: u64, resource: u8)
         requires inside { Inside (M.meaning self.now.memory.now) z }
         requires below { resource < (M.meaning self.now.memory.now).channels }
         ensures { Lifted (slots self.now.search) (by_resource (pool_of self.now.search) (M.meaning self.now.memory.now) (asked self.now.search) z resource) rows.old rows.new }
@@ -57,7 +58,7 @@ impl<M: Asking> Walk<'_, M> {
     }
 
     // The same for all resources of an index.
-    fn lift_index(&self, rows: &mut [[u8; 20]; 100], z: u64)
+    fn lift_index(&self, rows: &mut [[Need; 20]; 100], z: u64)
         requires { Inside (M.meaning self.now.memory.now) z }
         ensures { Lifted (slots self.now.search) (by_index (pool_of self.now.search) (M.meaning self.now.memory.now) (asked self.now.search) (M.meaning self.now.memory.now).channels z) rows.old rows.new }
     {
@@ -67,7 +68,7 @@ impl<M: Asking> Walk<'_, M> {
     }
 
     // The same for all indices of the window.
-    pub(crate) fn lift_window(&self, rows: &mut [[u8; 20]; 100])
+    pub(crate) fn lift_window(&self, rows: &mut [[Need; 20]; 100])
         ensures { Lifted (slots self.now.search) (by_window (pool_of self.now.search) (M.meaning self.now.memory.now) (asked self.now.search) ((M.meaning self.now.memory.now).next - (M.meaning self.now.memory.now).window) (M.meaning self.now.memory.now).window) rows.old rows.new }
     {
         let next = self.memory.next_index();

@@ -18,13 +18,13 @@ use choosing::{Candidates, Question};
 use measuring::MeanRow;
 use measuring::means::means;
 use pool::Pool;
-use reserving::needs;
+use reserving::{Need, needs};
 use sensing::Asking;
 
 // Selects among candidates of which it is known from which raise each survives, and its mean.
 fn select(
     found: &Candidates,
-    needs: &[[u8; 20]; 100],
+    needs: &[[Need; 20]; 100],
     means: &[MeanRow; 100],
     q: &Question,
     apart: u32,

@@ -15,6 +15,7 @@ mod reports;
 use arrayvec::ArrayVec;
 use choosing::Question;
 use measuring::Mean;
+use reserving::Need;
 
 // A place of a report: a subframe with its index, and the first sub-channel.
 #[derive(Clone, Copy, Default)]
@@ -28,7 +29,7 @@ pub struct Place {
 #[derive(Clone, Copy, Default)]
 pub(crate) struct Entry {
     place: Place,
-    need: u8,
+    need: Need,
     mean: Option<Mean>,
 }
 

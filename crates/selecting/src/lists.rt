@@ -9,13 +9,14 @@ use crate::{Entry, Place};
 use arrayvec::ArrayVec;
 use choosing::{Candidates, Slot};
 use measuring::MeanRow;
+use reserving::Need;
 
 // Adds the candidates of one slot.
 fn list_slot(
     entries: &mut ArrayVec<Entry, 2000>,
     slot: &Slot,
     width: u8,
-    needs: &[u8; 20],
+    needs: &[Need; 20],
     means: &MeanRow,
 )
     requires { (array_vec_len entries.old + width ≤ 2000) × (width ≤ 20) }
@@ -39,7 +40,7 @@ fn list_slot(
 pub(crate) fn list(
     entries: &mut ArrayVec<Entry, 2000>,
     found: &Candidates,
-    needs: &[[u8; 20]; 100],
+    needs: &[[Need; 20]; 100],
     means: &[MeanRow; 100],
 )
     requires { entries.old.items ≡ [] }
@@ -56,7 +57,7 @@ impl Entry {
     fn survives(&self, raise: u8) -> bool
         ensures { result ≡ free raise self.now }
     {
-        self.need <= raise
+        self.need.allows(raise)
     }
 }
 

@@ -3,6 +3,7 @@ use Rattle.std.specs.List.{range_with_len}
 use Rattle.std.proofs.lemmas.List.{append_assoc, get_or_default}
 use Rattle.std.proofs.lemmas.List.FromFn.{map-range_with_len_more}
 use Rattle.measuring.specs.declared.Mean.{Mean}
+use Rattle.reserving.specs.declared.Need.TheVariants.{From}
 use Rattle.selecting.specs.Lists.{entry_at}
 use Rattle.selecting.specs.declared.Entry.{Entry}
 use Rattle.selecting.proofs.lists.list_slot.Goals as goal
@@ -13,7 +14,7 @@ loop-channel-preserved c =
     let x = c.loop-channel.channel in
     let ms = a.means.now.means in
     let here : x < length ms = omega arith in
-    let put : ℕ → Option Mean → Entry = λ n o. record { place = record { subframe = a.slot.now.subframe; index = a.slot.now.index; channel = x }; need = get_or a.needs.now n 0; mean = o } in
+    let put : ℕ → Option Mean → Entry = λ n o. record { place = record { subframe = a.slot.now.subframe; index = a.slot.now.index; channel = x }; need = get_or a.needs.now n (From 0); mean = o } in
     let f = entry_at a.slot.now a.needs.now a.means.now in
     let before = c.loop-channel.entries.items in
     let front = a.entries.now.items in

@@ -28,5 +28,5 @@ returns g c =
     let said = rw c.in-Ok-Some.field-0-is at c.in-Ok-Some.ensures in
     let there : m.held a.z a.resource ≡ Some h = sym (told m a.z a.resource (Some c.in-Ok-Some.held) said).value in
     lifted_same (slots s) (by_held p q (m.next - a.z) a.z a.resource h) (by_resource p m q a.z a.resource) a.rows.now c.lift_held.new.rows
-    (λ r x few. ap (held_reserves p m q r x a.z a.resource) there)
+    (λ r x. ap (held_reserves p m q r x a.z a.resource) there)
     c.lift_held.ensures
