@@ -1,5 +1,6 @@
 -- The slots, one subframe more, and how many candidates they make. Assumes nothing.
 use Rattle.std.proofs.Common.{◌≡◌, ℕ, zero, suc, ◌+◌, ◌-◌, ◌*◌, ◌<◌, ◌≤◌, Bool, true, false, cond, ◌&&◌, ltb, leb, List, [], ◌∷◌, ◌++◌, map, length, take, Some, None, filter, sym, refl, ap, ◌∙◌, ⊎_elim, add-zero, add-mul, one-mul, zero-mul, add-one, arith, length-append, length-take}
+use Rattle.std.proofs.lemmas.List.{append-nil, length-map}
 use Rattle.std.specs.List.{range_with_len}
 use Rattle.std.proofs.lemmas.List.FromFn.{length-map-range_with_len}
 use Rattle.std.proofs.lemmas.Bool.{cases_Bool, and_parts, leb-true, lt-ltb}
@@ -33,8 +34,13 @@ module _ {X : Type 0} (f : ℕ → X) (g : ℕ → Bool) where
       (λ (t : g a ≡ false). rw t IH')
       (cases_Bool (g a))
 
-  pub kept_more : (a n : ℕ) → map f (filter g (range_with_len a (n + 1))) ≡ map f (filter g (range_with_len a n)) ++ cond (g (a + n)) (f (a + n) ∷ []) []
-  kept_more a n = ap (λ m. map f (filter g (range_with_len a m))) (add-one n) ∙ more a n
+  kept_up_to : (a s : ℕ) → a ≤ s → map f (filter g (range_with_len a (s + 1 - a))) ≡ map f (filter g (range_with_len a (s - a))) ++ cond (g s) (f s ∷ []) []
+  kept_up_to a s l =
+      let far : s + 1 - a ≡ suc (s - a) = omega arith in
+      let last : a + (s - a) ≡ s = omega arith in
+      ap (λ m. map f (filter g (range_with_len a m))) far
+      ∙ more a (s - a)
+      ∙ ap (λ i. map f (filter g (range_with_len a (s - a))) ++ cond (g i) (f i ∷ []) []) last
 
 abbrev place_at : ℕ → ℕ → Place
 place_at y x = record { channel = x; at = y }
@@ -51,13 +57,9 @@ all_across p q (s ∷ ss) =
     let split : suc (length ss) * w ≡ w + length ss * w = ap (λ n. n * w) (sym (add-one (length ss))) ∙ add-mul (length ss) 1 w ∙ omega (arith, one-mul w) in
     whole ∙ sym split
 
-length_map : {X Y : Type 0} (f : X → Y) (xs : List X) → length (map f xs) ≡ length xs
-length_map f [] = refl
-length_map f (x ∷ xs) = ap suc (length_map f xs)
-
 pub counted : (p : Pool) (now : ℕ) (q : Question) → length (map (slot_at p) (subframes p now q)) * (p.channels + 1 - q.length) ≡ length (candidates p now q)
 unfolding candidates
-counted p now q = ap (λ n. n * (p.channels + 1 - q.length)) (length_map (slot_at p) (subframes p now q)) ∙ sym (all_across p q (subframes p now q))
+counted p now q = ap (λ n. n * (p.channels + 1 - q.length)) (length-map (subframes p now q) (slot_at p)) ∙ sym (all_across p q (subframes p now q))
 
 -- an index that is found is the subframe's, and where none is found the subframe is not the pool's
 pub some_index : (p : Pool) (s i : ℕ) → Some i ≡ pool_index p s → ((in_set p s && in_pool p (index p s)) ≡ true) × (i ≡ index p s)
@@ -70,23 +72,19 @@ no_index p s e =
     elim (in_set p s && in_pool p (index p s)) as (λ b. None ≡ cond b (Some (index p s)) None → b ≡ false)
     [ true ↦ λ e. let z : ◌≡◌ {A = ℕ} 0 1 = cc in absurd (omega arith) | false ↦ λ e. refl ] e
 
-nothing_more : {X : Type 0} (xs : List X) → xs ++ [] ≡ xs
-nothing_more [] = refl
-nothing_more (x ∷ xs) = ap (λ ys. x ∷ ys) (nothing_more xs)
+-- the slots up to a subframe and with it, which is the pool's or is not
+pub slots_yes : (p : Pool) (first s i : ℕ) → first ≤ s → Some i ≡ pool_index p s → slots_from p first (s + 1 - first) ≡ slots_from p first (s - first) ++ record { subframe = s; index = i } ∷ []
+slots_yes p first s i l e =
+    let w = some_index p s i e in
+    kept_up_to (slot_at p) (λ s. in_set p s && in_pool p (index p s)) first s l
+    ∙ ap (λ b. slots_from p first (s - first) ++ cond b (slot_at p s ∷ []) []) w.0
+    ∙ ap (λ j. slots_from p first (s - first) ++ record { subframe = s; index = j } ∷ []) (sym w.1)
 
--- the slots with one subframe more, which is the pool's or is not
-pub slots_yes : (p : Pool) (first k i : ℕ) → Some i ≡ pool_index p (first + k) → slots_from p first (k + 1) ≡ slots_from p first k ++ record { subframe = first + k; index = i } ∷ []
-slots_yes p first k i e =
-    let w = some_index p (first + k) i e in
-    kept_more (slot_at p) (λ s. in_set p s && in_pool p (index p s)) first k
-    ∙ ap (λ b. slots_from p first k ++ cond b (slot_at p (first + k) ∷ []) []) w.0
-    ∙ ap (λ j. slots_from p first k ++ record { subframe = first + k; index = j } ∷ []) (sym w.1)
-
-pub slots_no : (p : Pool) (first k : ℕ) → None ≡ pool_index p (first + k) → slots_from p first (k + 1) ≡ slots_from p first k
-slots_no p first k e =
-    kept_more (slot_at p) (λ s. in_set p s && in_pool p (index p s)) first k
-    ∙ ap (λ b. slots_from p first k ++ cond b (slot_at p (first + k) ∷ []) []) (no_index p (first + k) e)
-    ∙ nothing_more (slots_from p first k)
+pub slots_no : (p : Pool) (first s : ℕ) → first ≤ s → None ≡ pool_index p s → slots_from p first (s + 1 - first) ≡ slots_from p first (s - first)
+slots_no p first s l e =
+    kept_up_to (slot_at p) (λ s. in_set p s && in_pool p (index p s)) first s l
+    ∙ ap (λ b. slots_from p first (s - first) ++ cond b (slot_at p s ∷ []) []) (no_index p s e)
+    ∙ append-nil (slots_from p first (s - first))
 
 -- what a question that passes its own questions keeps
 pub record WithinLimits (p : Pool) (q : Question) : Type 0 where

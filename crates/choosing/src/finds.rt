@@ -6,12 +6,9 @@ ghost use Rattle.choosing.specs.Asked.{question_of};
 ghost use Rattle.choosing.specs.Slots.{origin, slot_at, shown};
 ghost use Rattle.choosing.specs.Found.{Found, slots_of, pool_index, slots_from};
 
-use crate::{Candidates, Question, Slot};
+use crate::{Candidates, LATEST, Question, Slot};
 use answer::Refusal;
 use pool::Pool;
-
-// Far past every subframe of a unit, so that no sum wraps.
-const LATEST: u64 = 1 << 63;
 
 impl Candidates {
     fn none(width: u8) -> Candidates
@@ -42,7 +39,7 @@ impl Candidates {
     pub fn subframes(&self) -> usize
         ensures { result ≡ length (slots_of self.now) }
     {
-        self.count
+        self.slots().len()
     }
 
     // The subframes that the candidates lie in, with their indices.
@@ -71,10 +68,7 @@ impl Candidates {
     pub fn slot(&self, i: usize) -> Option<Slot>
         ensures { MatchOption result (length (slots_of self.now) ≤ i) (λ s. (i < length (slots_of self.now)) × (s ≡ slice_index_or (slots_of self.now) i origin)) }
     {
-        if i >= self.count {
-            return None;
-        }
-        Some(self.slots[i])
+        self.slots().get(i).copied()
     }
 }
 
@@ -82,25 +76,17 @@ impl Candidates {
 fn pool_index(pool: &Pool, subframe: u64) -> Option<u64>
     ensures { result ≡ pool_index (meaning pool.now) subframe }
 {
-    let Some(index) = pool.index(subframe) else {
-        return None;
-    };
-    if pool.in_pool(index) {
-        Some(index)
-    } else {
-        None
-    }
+    pool.index(subframe).filter(|index| pool.in_pool(*index))
 }
 
-// The slots of the n subframes from the first one on that are in the pool.
-fn find(pool: &Pool, first: u64, n: u8, width: u8) -> Candidates
-    requires { (first ≤ 2 ^ 63 + 4) × (n ≤ 100) × (width ≤ 20) }
-    ensures slots { slots_of result ≡ slots_from (meaning pool.now) first n }
+// The slots of the subframes from `first` to before `end` that are in the pool.
+fn find(pool: &Pool, first: u64, end: u64, width: u8) -> Candidates
+    requires { (first ≤ end) × (end ≤ first + 100) × (width ≤ 20) }
+    ensures slots { slots_of result ≡ slots_from (meaning pool.now) first (end - first) }
     ensures width { result.width ≡ width }
 {
     let mut found = Candidates::none(width);
-    for k in 0..n {
-        let subframe = first + k as u64;
+    for subframe in first..end {
         if let Some(index) = pool_index(pool, subframe) {
             found.push(Slot { subframe, index });
         }
@@ -113,11 +99,11 @@ pub fn candidates(pool: &Pool, at: u64, q: &Question) -> Result<Candidates, Refu
     ensures { at < 2 ^ 63 → Found (meaning pool.now) at (question_of q.now) result }
 {
     q.check(pool)?;
-    let first = at.min(LATEST) + u64::from(q.from);
+    let now = at.min(LATEST);
     let found = find(
         pool,
-        first,
-        q.to + 1 - q.from,
+        now + u64::from(q.from),
+        now + u64::from(q.to) + 1,
         pool.channels() + 1 - q.length,
     );
     if found.count == 0 {

@@ -1,2 +1,3 @@
+pub mod Bounds
 pub mod Means
 pub mod Sums

@@ -7,11 +7,17 @@ use Rattle.choosing.specs.Fits.{place_of}
 use Rattle.choosing.specs.declared.Slot.{Slot}
 use Rattle.measuring.specs.declared.Mean.{Mean}
 use Rattle.measuring.specs.declared.MeanRow.{MeanRow}
+use Rattle.measuring.specs.declared.Sum.{Sum}
+use Rattle.measuring.specs.Sums.{column, fraction}
 
 -- the fraction that a mean of the code is
 abbrev pub fraction_of : Option Mean → Option Fraction
 fraction_of None = None
 fraction_of (Some a) = Some (record { over = a.over; under = a.under })
+
+-- the means of the sums of a slot
+pub record MeansOf (s : Sum) (row : MeanRow) : Type 0 where
+  pub each : (x : ℕ) → x < 20 → fraction_of (slice_index_or row.means x None) ≡ fraction (column s x) s.under
 
 -- a row without means
 abbrev pub silent : MeanRow

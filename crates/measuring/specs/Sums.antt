@@ -5,23 +5,17 @@ use Rattle.rules.specs.Choose.{Fraction, Question, power, readings_in}
 use Rattle.rules.specs.Sensing.{Meaning, listened?}
 use Rattle.choosing.specs.Fits.{index_of}
 use Rattle.choosing.specs.declared.Slot.{Slot}
-use Rattle.measuring.specs.declared.sums.Sum.{Sum}
+use Rattle.measuring.specs.declared.Sum.{Sum}
 
--- a sum of no samples
-abbrev pub empty : Sum
-empty = record { under = 0; over = replicate 20 0 }
-
--- what is read past the last slot
-abbrev pub past : Sum
-past = record { under = 0; over = [] }
-
--- the sum of a slot
-abbrev pub sum_at : List Sum → ℕ → Sum
-sum_at sums i = slice_index_or sums i past
-
--- the sum of one of its first sub-channels
+-- the sum of one of the first sub-channels
 abbrev pub column : Sum → ℕ → ℕ
 column s x = slice_index s.over x
+
+-- no sample yet of a slot at y
+pub record NoneYet (y : ℕ) (s : Sum) : Type 0 where
+  pub at : s.at ≡ y
+  pub under : s.under ≡ 0
+  pub over : (x : ℕ) → column s x ≡ 0
 
 -- z lies whole steps before y
 abbrev pub lies : ℕ → ℕ → ℕ → Bool
@@ -31,43 +25,42 @@ lies step z y = (y - z) % step == 0
 abbrev pub total : List ℕ → ℕ → ℕ → ℕ
 total readings n x = sum_by (λ a. slice_index readings a) (range_with_len x n)
 
--- at most what 20 readings of 32 bits are together
-abbrev pub most : ℕ
-most = 85899345900
-
 -- one sample more where the test passes
 pub record More (test : Bool) (row : ℕ → ℕ) (s t : Sum) : Type 0 where
+  pub at : t.at ≡ s.at
   pub under : t.under ≡ s.under + cond test 1 0
   pub over : (x : ℕ) → x < 20 → column t x ≡ column s x + cond test (row x) 0
 
--- a sum of at most k samples
-pub record Small (k : ℕ) (s : Sum) : Type 0 where
-  pub under : s.under ≤ k
-  pub over : (x : ℕ) → x < 20 → column s x ≤ k * most
+-- z is tried as a sample of each sum
+abbrev pub AllMore : ℕ → ℕ → (ℕ → ℕ) → List Sum → List Sum → Type 0
+AllMore step z row before after = (i : ℕ) → i < length before → (d : Sum) → More (lies step z (slice_index_or before i d).at) row (slice_index_or before i d) (slice_index_or after i d)
 
--- the first n sums are of at most k samples
-abbrev pub AllSmall : ℕ → ℕ → List Sum → Type 0
-AllSmall n k sums = (i : ℕ) → i < n → Small k (sum_at sums i)
+-- each sum has at most k samples
+abbrev pub AllUpTo : ℕ → List Sum → Type 0
+AllUpTo k sums = (i : ℕ) → i < length sums → (d : Sum) → (slice_index_or sums i d).under ≤ k
 
 -- z is a sample of y
 abbrev pub taken : Meaning → ℕ → ℕ → ℕ → Bool
 taken m step y z = listened? (m.cell z) && lies step z y
 
--- what an index adds to a sum of a slot at y
-pub record Added (m : Meaning) (q : Question) (step z y : ℕ) (s t : Sum) : Type 0 where
-  pub under : t.under ≡ s.under + cond (taken m step y z) 1 0
-  pub over : (x : ℕ) → x < 20 → x + q.length ≤ m.channels → column t x ≡ column s x + cond (taken m step y z) (power m q x z) 0
+-- what an index adds to a sum
+pub record Added (m : Meaning) (q : Question) (step z : ℕ) (s t : Sum) : Type 0 where
+  pub at : t.at ≡ s.at
+  pub under : t.under ≡ s.under + cond (taken m step s.at z) 1 0
+  pub over : (x : ℕ) → x < 20 → x + q.length ≤ m.channels → column t x ≡ column s x + cond (taken m step s.at z) (power m q x z) 0
 
-abbrev pub AllAdded : Meaning → Question → ℕ → ℕ → List Slot → List Sum → List Sum → Type 0
-AllAdded m q step z slots before after = (i : ℕ) → i < length slots → Added m q step z (index_of slots i) (sum_at before i) (sum_at after i)
+abbrev pub AllAdded : Meaning → Question → ℕ → ℕ → List Sum → List Sum → Type 0
+AllAdded m q step z before after = (i : ℕ) → i < length before → (d : Sum) → Added m q step z (slice_index_or before i d) (slice_index_or after i d)
 
 -- the sum of a slot at y over the k indices from the lowest on
 pub record Walked (m : Meaning) (q : Question) (step low k y : ℕ) (s : Sum) : Type 0 where
+  pub at : s.at ≡ y
+  pub few : s.under ≤ k
   pub under : s.under ≡ sum_by (λ z. cond (taken m step y z) 1 0) (range_with_len low k)
   pub over : (x : ℕ) → x < 20 → x + q.length ≤ m.channels → column s x ≡ sum_by (λ z. cond (taken m step y z) (power m q x z) 0) (range_with_len low k)
 
 abbrev pub AllWalked : Meaning → Question → ℕ → ℕ → ℕ → List Slot → List Sum → Type 0
-AllWalked m q step low k slots sums = (i : ℕ) → i < length slots → Walked m q step low k (index_of slots i) (sum_at sums i)
+AllWalked m q step low k slots sums = (i : ℕ) → i < length slots → (d : Sum) → Walked m q step low k (index_of slots i) (slice_index_or sums i d)
 
 -- the readings of an index, absent where it was not listened to
 abbrev pub Heard : Meaning → ℕ → Option (List ℕ) → Type 0

@@ -1,7 +1,8 @@
 // The mean S-RSSI of each candidate, as an exact fraction.
 #![tactic(auto)]
 
-ghost use Rattle.std.specs.Prelude.{◌≡◌, ℕ, ◌^◌, ◌<◌, ◌≤◌};
+ghost use Rattle.std.specs.Prelude.{◌≡◌, ℕ, ◌*◌, ◌^◌, ◌<◌, ◌≤◌, slice_index};
+ghost use Rattle.measuring.specs.Bounds.{most};
 
 pub mod means;
 mod sums;
@@ -16,8 +17,26 @@ pub struct Mean {
     ghost small: { over < 2 ^ 48 },
 }
 
-// The means at one slot, by first sub-channel.
+// The means at one slot, by first sub-channel: a struct of its own, since tried as an array of arrays its rows cannot be borrowed
+// one by one, for their elements have an invariant.
 #[derive(Clone, Copy)]
 pub struct MeanRow {
     pub means: [Option<Mean>; 20],
+}
+
+// The samples of a slot so far: the slot's index, how many there are, and the sum of their readings for each first sub-channel.
+#[derive(Clone, Copy)]
+pub(crate) struct Sum {
+    at: u64,
+    under: u32,
+    over: [u64; 20],
+    ghost few: { under ≤ 1000 },
+    ghost small: { (x : ℕ) → slice_index over x ≤ under * most },
+}
+
+// The readings of an index, added up for each first sub-channel.
+#[derive(Clone, Copy)]
+pub(crate) struct Powers {
+    from: [u64; 20],
+    ghost few: { (x : ℕ) → slice_index from x ≤ most },
 }

@@ -6,14 +6,15 @@ ghost use Rattle.rules.specs.Sensing.{Inside};
 ghost use Rattle.choosing.specs.Asked.{question_of};
 ghost use Rattle.choosing.specs.Found.{slots_of};
 ghost use Rattle.choosing.specs.Fits.{Fit};
-ghost use Rattle.measuring.specs.Means.{fraction_of, at, MeansAre};
-ghost use Rattle.measuring.specs.Sums.{Heard, AllAdded, Small, AllSmall, sum_at, column, fraction};
+ghost use Rattle.measuring.specs.Means.{fraction_of, silent, MeansOf, MeansAre};
+ghost use Rattle.measuring.specs.Sums.{Heard, AllAdded, AllUpTo, column, fraction};
 
-use crate::sums::{Sum, add_all, powers};
-use crate::{Mean, MeanRow};
-use choosing::{Candidates, Question, Slot};
+use crate::sums::{add_all, none_yet};
+use crate::{Mean, MeanRow, Powers, Sum};
+use choosing::{Candidates, Question};
 use pool::Pool;
 use sensing::Asking;
+use std::array;
 
 // Is the first mean lower? One that is absent is lower than none, and any other is lower than it.
 pub fn lower(x: Option<Mean>, y: Option<Mean>) -> bool
@@ -45,91 +46,66 @@ fn readings_at<M: Asking>(m: &M, z: u64) -> Option<[u32; 20]>
     ensures { Heard (M.meaning m.now) z result }
 {
     let mut readings = [0; 20];
+    // The memory is asked by the number of a sub-channel, so the loop is over numbers.
     for a in 0..m.channels() {
-        let Ok(held) = m.reading(z, a) else {
-            return None;
-        };
-        let Some(reading) = held else {
-            return None;
-        };
-        readings[a as usize] = reading;
+        readings[usize::from(a)] = m.reading(z, a).ok()??;
     }
     Some(readings)
 }
 
-// Adds the readings of an index, if it was listened to, to the sums of the slots whose sample it is.
-fn add_index<M: Asking>(
-    m: &M,
-    q: &Question,
-    sums: &mut [Sum; 100],
-    slots: &[Slot],
-    step: u64,
-    z: u64,
-)
-    requires { Inside (M.meaning m.now) z × (length slots.now ≤ 100) × AllSmall (length slots.now) 1000 sums.old }
-    ensures added { AllAdded (M.meaning m.now) (question_of q.now) step z slots.now sums.old sums.new }
-    ensures small { (k : ℕ) → AllSmall (length slots.now) k sums.old → AllSmall (length slots.now) (k + 1) sums.new }
+// Adds the readings of an index, if it was listened to, to the sums whose sample it is.
+fn add_index<M: Asking>(m: &M, q: &Question, sums: &mut [Sum], step: u64, z: u64)
+    requires { Inside (M.meaning m.now) z × AllUpTo 999 sums.old }
+    ensures { AllAdded (M.meaning m.now) (question_of q.now) step z sums.old sums.new }
 {
     let Some(readings) = readings_at(m, z) else {
         return;
     };
-    let row = powers(&readings, usize::from(q.length));
-    add_all(sums, slots, z, step, &row);
+    let powers = Powers::new(&readings, usize::from(q.length));
+    add_all(sums, z, step, &powers);
 }
 
-// The mean at a first sub-channel, absent where there is no sample.
-fn mean_of(sum: &Sum, x: usize) -> Option<Mean>
-    requires { Small 1000 sum.now × (x < 20) }
-    ensures { fraction_of result ≡ fraction (column sum.now x) sum.now.under }
-{
-    if sum.under == 0 {
-        return None;
+impl Sum {
+    // The mean at a first sub-channel, absent where there is no sample.
+    fn mean(&self, x: usize) -> Option<Mean>
+        requires { x < 20 }
+        ensures { fraction_of result ≡ fraction (column self.now x) self.now.under }
+    {
+        if self.under == 0 {
+            return None;
+        }
+        Some(Mean {
+            over: self.over[x],
+            under: self.under,
+        })
     }
-    Some(Mean {
-        over: sum.over[x],
-        under: sum.under,
-    })
+
+    fn means(&self) -> MeanRow
+        ensures { MeansOf self.now result }
+    {
+        MeanRow {
+            means: array::from_fn(|x| self.mean(x)),
+        }
+    }
 }
 
-// The means of a slot.
-fn row_of(sum: &Sum) -> MeanRow
-    requires { Small 1000 sum.now }
-    ensures { (x : ℕ) → x < 20 → fraction_of (slice_index_or result.means x None) ≡ fraction (column sum.now x) sum.now.under }
+fn rows(sums: [Sum; 100]) -> [MeanRow; 100]
+    ensures { (i : ℕ) → i < 100 → (d : _) → MeansOf (slice_index_or sums i d) (slice_index_or result i silent) }
 {
-    let mut row = [None; 20];
-    for x in 0..20 {
-        row[x] = mean_of(sum, x);
-    }
-    MeanRow { means: row }
-}
-
-// The means of the first n slots.
-fn rows_of(sums: &[Sum; 100], n: usize) -> [MeanRow; 100]
-    requires { (n ≤ 100) × AllSmall n 1000 sums.now }
-    ensures { (i x : ℕ) → i < n → x < 20 → fraction_of (at result i x) ≡ fraction (column (sum_at sums.now i) x) (sum_at sums.now i).under }
-{
-    let mut rows = [MeanRow { means: [None; 20] }; 100];
-    for i in 0..n {
-        rows[i] = row_of(&sums[i]);
-    }
-    rows
+    sums.map(|sum| sum.means())
 }
 
 // For each slot and first sub-channel the mean of that candidate. It speaks of memories that fit the pool.
 pub fn means<M: Asking>(pool: &Pool, m: &M, q: &Question, c: &Candidates) -> [MeanRow; 100]
     ensures { Fit (pool_meaning pool.now) (M.meaning m.now) → MeansAre (pool_meaning pool.now) (M.meaning m.now) (question_of q.now) (slots_of c.now) result }
 {
-    let empty = Sum {
-        under: 0,
-        over: [0; 20],
-    };
-    let mut sums = [empty; 100];
     let slots = c.slots();
+    let mut all = none_yet(slots);
+    let sums = &mut all[..slots.len()];
     let step = sample_step(pool, q);
-    let window = m.window();
-    let low = m.next_index() - window;
-    for k in 0..window {
-        add_index(m, q, &mut sums, slots, step, low + k);
+    let next = m.next_index();
+    for z in next - m.window()..next {
+        add_index(m, q, sums, step, z);
     }
-    rows_of(&sums, slots.len())
+    rows(all)
 }

@@ -1,26 +1,19 @@
 // Sums of readings: how many samples a slot has, and for each first sub-channel the sum of their readings.
-ghost use Rattle.std.specs.Prelude.{◌≡◌, ℕ, ◌+◌, ◌<◌, ◌≤◌, length, slice_index};
+ghost use Rattle.std.specs.Prelude.{◌≡◌, ℕ, ◌+◌, ◌*◌, ◌<◌, ◌≤◌, length, slice_index, slice_index_or, sum_by};
 ghost use Rattle.choosing.specs.Fits.{index_of};
-ghost use Rattle.measuring.specs.Sums.{lies, total, most, More, Small, AllSmall, sum_at};
+ghost use Rattle.measuring.specs.Bounds.{most};
+ghost use Rattle.measuring.specs.Sums.{lies, total, NoneYet, More, AllMore, AllUpTo, column};
 
+use crate::{Powers, Sum};
 use choosing::Slot;
+use std::array;
 
-// The samples of one slot so far.
-#[derive(Clone, Copy)]
-pub(crate) struct Sum {
-    pub(crate) under: u32,
-    pub(crate) over: [u64; 20],
-}
-
-// Does z lie whole steps before y? An index after y counts as one at y.
-fn lies_before(z: u64, y: u64, step: u64) -> bool
-    ensures { result ≡ lies step z y }
+fn sum_of(readings: &[u32]) -> u64
+    requires { length readings.now ≤ 20 }
+    ensures value { result ≡ sum_by (λ r. r) readings.now }
+    ensures few { result ≤ most }
 {
-    let back = y.saturating_sub(z);
-    if step == 0 {
-        return back == 0;
-    }
-    back % step == 0
+    readings.iter().map(|r| u64::from(*r)).sum()
 }
 
 // The sum of the readings of n sub-channels from x on, or 0 where there are fewer.
@@ -29,49 +22,82 @@ fn power(readings: &[u32; 20], n: usize, x: usize) -> u64
     ensures value { x + n ≤ 20 → result ≡ total readings.now n x }
     ensures few { result ≤ most }
 {
-    if x + n > 20 {
+    let Some(part) = readings.get(x..x + n) else {
         return 0;
-    }
-    let mut sum = 0;
-    for k in 0..n {
-        sum += u64::from(readings[x + k]);
-    }
-    sum
+    };
+    sum_of(part)
 }
 
-// The same for each x.
-pub(crate) fn powers(readings: &[u32; 20], n: usize) -> [u64; 20]
-    requires { n ≤ 255 }
-    ensures value { (x : ℕ) → x < 20 → x + n ≤ 20 → slice_index result x ≡ total readings.now n x }
-    ensures few { (x : ℕ) → x < 20 → slice_index result x ≤ most }
-{
-    let mut row = [0; 20];
-    for x in 0..20 {
-        row[x] = power(readings, n, x);
-    }
-    row
-}
-
-// Adds a row of powers at index z to the sum of a slot at index y, if z is a sample of y.
-fn add(sum: &mut Sum, y: u64, z: u64, step: u64, row: &[u64; 20])
-    requires { Small 1000 sum.old × ((x : ℕ) → x < 20 → slice_index row.now x ≤ most) }
-    ensures { More (lies step z y) (λ x. slice_index row.now x) sum.old sum.new }
-{
-    if !lies_before(z, y, step) {
-        return;
-    }
-    sum.under += 1;
-    for x in 0..20 {
-        sum.over[x] += row[x];
+impl Powers {
+    pub(crate) fn new(readings: &[u32; 20], n: usize) -> Powers
+        requires { n ≤ 255 }
+        ensures { (x : ℕ) → x < 20 → x + n ≤ 20 → slice_index result.from x ≡ total readings.now n x }
+    {
+        Powers {
+            from: array::from_fn(|x| power(readings, n, x)),
+        }
     }
 }
 
-// Adds a row of powers at index z to the sums of the slots whose sample it is.
-pub(crate) fn add_all(sums: &mut [Sum; 100], slots: &[Slot], z: u64, step: u64, row: &[u64; 20])
-    requires { (length slots.now ≤ 100) × AllSmall (length slots.now) 1000 sums.old × ((x : ℕ) → x < 20 → slice_index row.now x ≤ most) }
-    ensures { (i : ℕ) → i < length slots.now → More (lies step z (index_of slots.now i)) (λ x. slice_index row.now x) (sum_at sums.old i) (sum_at sums.new i) }
+impl Sum {
+    // No sample yet, of a slot at an index.
+    pub(crate) fn none(at: u64) -> Sum
+        ensures { NoneYet at result }
+    {
+        Sum {
+            at,
+            under: 0,
+            over: [0; 20],
+        }
+    }
+
+    // Is the index z a sample of it, some whole steps before its own? An index after its own counts as one at it.
+    fn has(&self, z: u64, step: u64) -> bool
+        ensures { result ≡ lies step z self.now.at }
+    {
+        let back = self.at.saturating_sub(z);
+        if step == 0 {
+            return back == 0;
+        }
+        back % step == 0
+    }
+
+    // Adds the powers of an index z, if that is a sample of it.
+    fn add(&mut self, z: u64, step: u64, powers: &Powers)
+        requires { self.old.under < 1000 }
+        ensures { More (lies step z self.old.at) (λ x. slice_index powers.now.from x) self.old self.new }
+    {
+        if !self.has(z, step) {
+            return;
+        }
+        *self = Sum {
+            at: self.at,
+            under: self.under + 1,
+            over: array::from_fn(|x| self.over[x] + powers.from[x]),
+        };
+    }
+}
+
+// The index of a slot, or 0 past the last one.
+fn index_at(slots: &[Slot], i: usize) -> u64
+    ensures { result ≡ index_of slots.now i }
 {
-    for i in 0..slots.len() {
-        add(&mut sums[i], slots[i].index, z, step, row);
+    slots.get(i).map_or(0, |slot| slot.index)
+}
+
+// No sample yet of any slot.
+pub(crate) fn none_yet(slots: &[Slot]) -> [Sum; 100]
+    ensures { (i : ℕ) → i < 100 → (d : _) → NoneYet (index_of slots.now i) (slice_index_or result i d) }
+{
+    array::from_fn(|i| Sum::none(index_at(slots, i)))
+}
+
+// Adds the powers of an index z to the sums whose sample it is.
+pub(crate) fn add_all(sums: &mut [Sum], z: u64, step: u64, powers: &Powers)
+    requires { AllUpTo 999 sums.old }
+    ensures { AllMore step z (λ x. slice_index powers.now.from x) sums.old sums.new }
+{
+    for sum in sums.iter_mut() {
+        sum.add(z, step, powers);
     }
 }

@@ -24,9 +24,8 @@ has_level p own other h k e =
     omega arith
 
 -- the numbers that the code has for a record's are the rules'
-pub same_bases : (q : Question) (what : Record) (a z : ℕ) (c : Place) (b b' : Bool) (apart apart' d d' n n' : ℕ) → b ≡ b' → apart ≡ apart' → d ≡ d' → n ≡ n' → (b && any (λ k. takes q apart c what a (z + k * d)) (range_with_len 0 (n + 1))) ≡ (b' && any (λ k. takes q apart' c what a (z + k * d')) (range_with_len 0 (n' + 1)))
-same_bases q what a z c b b' apart apart' d d' n n' e f g h =
+pub same_bases : (q : Question) (what : Record) (a z apart : ℕ) (c : Place) (b b' : Bool) (d d' n n' : ℕ) → b ≡ b' → d ≡ d' → n ≡ n' → (b && any (λ k. takes q apart c what a (z + k * d)) (range_with_len 0 (n + 1))) ≡ (b' && any (λ k. takes q apart c what a (z + k * d')) (range_with_len 0 (n' + 1)))
+same_bases q what a z apart c b b' d d' n n' e f g =
     ap (λ t. t && any (λ k. takes q apart c what a (z + k * d)) (range_with_len 0 (n + 1))) e
-    ∙ ap (λ t. b' && any (λ k. takes q t c what a (z + k * d)) (range_with_len 0 (n + 1))) f
-    ∙ ap (λ t. b' && any (λ k. takes q apart' c what a (z + k * t)) (range_with_len 0 (n + 1))) g
-    ∙ ap (λ t. b' && any (λ k. takes q apart' c what a (z + k * d')) (range_with_len 0 (t + 1))) h
+    ∙ ap (λ t. b' && any (λ k. takes q apart c what a (z + k * t)) (range_with_len 0 (n + 1))) f
+    ∙ ap (λ t. b' && any (λ k. takes q apart c what a (z + k * d')) (range_with_len 0 (t + 1))) g

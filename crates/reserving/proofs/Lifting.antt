@@ -1,53 +1,41 @@
--- Numbers that are lifted, step by step. Assumes nothing.
-use Rattle.std.proofs.Common.{◌≡◌, ℕ, ◌≤◌, max, Bool, true, false, ◌&&◌, ◌||◌, ltb, List, get_or, sym, refl, ap, ◌∙◌, arith}
-use Rattle.std.proofs.lemmas.Bool.Decides.{nat_tests}
+-- Needs that are lifted, step by step. Assumes nothing.
+use Rattle.std.proofs.Common.{◌≡◌, ℕ, ◌+◌, Bool, false, ◌||◌, List, get_or, sym, ap, ◌∙◌}
+use Rattle.std.specs.List.{range_with_len}
+use Rattle.std.proofs.Math.Bool.{or_assoc, or-false}
 use Rattle.rules.specs.Choose.{Place}
-use Rattle.choosing.proofs.Marking.{or_assoc, or_none}
+use Rattle.rules.specs.Counting.{any}
+use Rattle.choosing.proofs.Marking.{any_more}
 use Rattle.choosing.specs.Fits.{place_of}
 use Rattle.choosing.specs.declared.Slot.{Slot}
-use Rattle.reserving.specs.Needs.{at}
+use Rattle.reserving.specs.Needs.{bars, at}
+use Rattle.reserving.specs.declared.Need.{Need}
+use Rattle.reserving.specs.declared.Need.TheVariants.{From}
 use Rattle.reserving.specs.Lifts.{RowLifted, Lifted}
 
-pub and_none : (a : Bool) → (a && false) ≡ false
-and_none true = refl
-and_none false = refl
-
-and_all : (a : Bool) → (a && true) ≡ a
-and_all true = refl
-and_all false = refl
-
-pub and_over_or : (a b c : Bool) → (a && (b || c)) ≡ ((a && b) || (a && c))
-and_over_or true b c = refl
-and_over_or false b c = refl
-
--- a raise is below the greater of two numbers where it is below one of them
-below_max : (r a n : ℕ) → ltb r (max a n) ≡ (ltb r a || ltb r n)
-below_max r a n = grind (arith, nat_tests)
-
-pub lift_there : (r a n : ℕ) (s : Bool) → s ≡ true → ltb r (max a n) ≡ (ltb r a || (ltb r n && s))
-lift_there r a n s e = below_max r a n ∙ ap (λ b. ltb r a || b) (sym (and_all (ltb r n)) ∙ ap (λ t. ltb r n && t) (sym e))
-
-pub lift_nowhere : (r a n : ℕ) (s : Bool) → s ≡ false → ltb r a ≡ (ltb r a || (ltb r n && s))
-lift_nowhere r a n s e = sym (ap (λ b. ltb r a || b) (ap (λ t. ltb r n && t) e ∙ and_none (ltb r n)) ∙ or_none (ltb r a))
-
 -- what is lifted by one test and then by another is lifted by the test that passes where one of them does
-pub lifted_both : (slots : List Slot) (f g h : ℕ → Place → Bool) (xs ys zs : List (List ℕ)) → ((r : ℕ) (c : Place) → r ≤ 43 → h r c ≡ (f r c || g r c)) → Lifted slots f xs ys → Lifted slots g ys zs → Lifted slots h xs zs
-lifted_both slots f g h xs ys zs e p q i x r l k few =
+pub lifted_both : (slots : List Slot) (f g h : ℕ → Place → Bool) (xs ys zs : List (List Need)) → ((r : ℕ) (c : Place) → h r c ≡ (f r c || g r c)) → Lifted slots f xs ys → Lifted slots g ys zs → Lifted slots h xs zs
+lifted_both slots f g h xs ys zs e p q i x r l k =
     let c = place_of slots i x in
-    q i x r l k few
-    ∙ ap (λ b. b || g r c) (p i x r l k few)
-    ∙ or_assoc (ltb r (at xs i x)) (f r c) (g r c)
-    ∙ ap (λ b. ltb r (at xs i x) || b) (sym (e r c few))
+    q i x r l k
+    ∙ ap (λ b. b || g r c) (p i x r l k)
+    ∙ or_assoc (bars (at xs i x) r) (f r c) (g r c)
+    ∙ ap (λ b. bars (at xs i x) r || b) (sym (e r c))
 
-pub lifted_same : (slots : List Slot) (f h : ℕ → Place → Bool) (xs ys : List (List ℕ)) → ((r : ℕ) (c : Place) → r ≤ 43 → h r c ≡ f r c) → Lifted slots f xs ys → Lifted slots h xs ys
-lifted_same slots f h xs ys e p i x r l k few = p i x r l k few ∙ ap (λ b. ltb r (at xs i x) || b) (sym (e r (place_of slots i x) few))
+pub lifted_same : (slots : List Slot) (f h : ℕ → Place → Bool) (xs ys : List (List Need)) → ((r : ℕ) (c : Place) → h r c ≡ f r c) → Lifted slots f xs ys → Lifted slots h xs ys
+lifted_same slots f h xs ys e p i x r l k = p i x r l k ∙ ap (λ b. bars (at xs i x) r || b) (sym (e r (place_of slots i x)))
 
-pub lifted_none : (slots : List Slot) (h : ℕ → Place → Bool) (xs : List (List ℕ)) → ((r : ℕ) (c : Place) → r ≤ 43 → h r c ≡ false) → Lifted slots h xs xs
-lifted_none slots h xs e i x r l k few = sym (ap (λ b. ltb r (at xs i x) || b) (e r (place_of slots i x) few) ∙ or_none (ltb r (at xs i x)))
+pub lifted_none : (slots : List Slot) (h : ℕ → Place → Bool) (xs : List (List Need)) → ((r : ℕ) (c : Place) → h r c ≡ false) → Lifted slots h xs xs
+lifted_none slots h xs e i x r l k = sym (ap (λ b. bars (at xs i x) r || b) (e r (place_of slots i x)) ∙ or-false (bars (at xs i x) r))
+
+-- what is lifted by the tests of n numbers from a on, and then by the test of the next number i
+pub lifted_more : (slots : List Slot) (f : ℕ → ℕ → Place → Bool) (a n m i : ℕ) (xs ys zs : List (List Need)) → i ≡ a + n → m ≡ n + 1 → Lifted slots (λ r c. any (λ k. f k r c) (range_with_len a n)) xs ys → Lifted slots (f i) ys zs → Lifted slots (λ r c. any (λ k. f k r c) (range_with_len a m)) xs zs
+lifted_more slots f a n m i xs ys zs e e' =
+    lifted_both slots (λ r c. any (λ k. f k r c) (range_with_len a n)) (f i) (λ r c. any (λ k. f k r c) (range_with_len a m)) xs ys zs
+    (λ r c. ap (λ t. any (λ k. f k r c) (range_with_len a t)) e' ∙ any_more (λ k. f k r c) a n i e)
 
 -- the same of one row
-pub row_same : (f h : ℕ → ℕ → Bool) (xs ys : List ℕ) → ((r x : ℕ) → h r x ≡ f r x) → RowLifted f xs ys → RowLifted h xs ys
-row_same f h xs ys e p x r k = p x r k ∙ ap (λ b. ltb r (get_or xs x 0) || b) (sym (e r x))
+pub row_same : (f h : ℕ → ℕ → Bool) (xs ys : List Need) → ((r x : ℕ) → h r x ≡ f r x) → RowLifted f xs ys → RowLifted h xs ys
+row_same f h xs ys e p x r k = p x r k ∙ ap (λ b. bars (get_or xs x (From 0)) r || b) (sym (e r x))
 
-pub row_none : (h : ℕ → ℕ → Bool) (xs : List ℕ) → ((r x : ℕ) → h r x ≡ false) → RowLifted h xs xs
-row_none h xs e x r k = sym (ap (λ b. ltb r (get_or xs x 0) || b) (e r x) ∙ or_none (ltb r (get_or xs x 0)))
+pub row_none : (h : ℕ → ℕ → Bool) (xs : List Need) → ((r x : ℕ) → h r x ≡ false) → RowLifted h xs xs
+row_none h xs e x r k = sym (ap (λ b. bars (get_or xs x (From 0)) r || b) (e r x) ∙ or-false (bars (get_or xs x (From 0)) r))

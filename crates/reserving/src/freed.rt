@@ -2,8 +2,9 @@
 ghost use Rattle.std.specs.Prelude.{◌≡◌, ℕ, ◌*◌, ◌≤◌, true, nat_lt};
 ghost use Rattle.rules.specs.Choose.{above};
 ghost use Rattle.rules.specs.Sensing.{rsrp_ok};
+ghost use Rattle.reserving.specs.Needs.{bars};
 
-use crate::NEVER;
+use crate::Need;
 use pool::levels::finite_level;
 
 // How many raises of 3 dB it takes to reach so many tenths of a dB.
@@ -12,23 +13,19 @@ fn raises_over(over: u16) -> u8
     ensures value { (raise : ℕ) → nat_lt (30 * raise) over ≡ nat_lt raise result }
     ensures few { result ≤ 43 }
 {
-    ((over + 29) / 30) as u8
+    over.div_ceil(30) as u8
 }
 
-// The first raise at which an RSRP is not above the threshold of a level. Level 0 has none, and is given a number past
-// all raises. For the others it is at most 43, since no RSRP lies more than 128 dB above a threshold.
-pub(crate) fn freed_at(level: u8, rsrp: i16) -> u8
+// The first raise at which an RSRP is not above the threshold of a level. At level 0 there is none.
+pub(crate) fn freed_at(level: u8, rsrp: i16) -> Need
     requires { rsrp_ok rsrp ≡ true }
-    ensures { (raise : ℕ) → raise ≤ 43 → above level raise rsrp ≡ nat_lt raise result }
+    ensures { (raise : ℕ) → above level raise rsrp ≡ bars result raise }
 {
     if level == 0 {
-        return NEVER;
+        return Need::Never;
     }
-    let Some(threshold) = finite_level(level) else {
-        return 0;
-    };
-    if rsrp <= threshold {
-        return 0;
+    match finite_level(level) {
+        Some(threshold) if rsrp > threshold => Need::From(raises_over(rsrp.abs_diff(threshold))),
+        _ => Need::From(0),
     }
-    raises_over((rsrp - threshold) as u16)
 }

@@ -1,9 +1,7 @@
 -- What a selection over the list of all candidates answers, by the definitions. Assumes nothing.
-use Rattle.std.proofs.Common.{◌≡◌, ℕ, zero, suc, ◌+◌, ◌<◌, ◌≤◌, Bool, true, false, List, ◌∷◌, map, length, get_or, take, replicate, Ok, Err, filter, sym, refl, ap, ◌∙◌, subst, inr, arith}
-use Rattle.std.specs.List.{range_with_len, AllByRecursion}
-use Rattle.std.proofs.lemmas.List.FromFn.{fill_by_all}
+use Rattle.std.proofs.Common.{◌≡◌, ℕ, ◌<◌, ◌≤◌, true, false, List, map, length, take, Ok, Err, filter, sym, ap, ◌∙◌, subst, inr, arith}
+use Rattle.std.specs.List.{AllByRecursion}
 use Rattle.std.proofs.ByRecursion.{All-map, All-take, all_kept_by, all_shuffled}
-use Rattle.std.proofs.lemmas.List.{get_or-replicate, get_or-take, length-take-le}
 use Rattle.answer.specs.declared.Refusal.{Refusal}
 use Rattle.rules.specs.Calendar.{Pool}
 use Rattle.rules.specs.Choose.{Question, candidates, enough, interval, choose_questions, fifth}
@@ -18,10 +16,10 @@ use Rattle.choosing.specs.Asked.{question_of}
 use Rattle.choosing.specs.Fits.{Fit}
 use Rattle.choosing.specs.declared.Question.{Question as Asked}
 use Rattle.selecting.specs.Chosen.{Selected, Chosen, Answers, SetSubframe}
-use Rattle.selecting.specs.Entries.{candidate_of, reported, nowhere}
+use Rattle.selecting.specs.Entries.{candidate_of, reported}
 use Rattle.selecting.specs.Lifts.{NoneBelow}
 use Rattle.selecting.specs.Lists.{free}
-use Rattle.selecting.specs.Made.{shown, marks, left}
+use Rattle.selecting.specs.Made.{shown}
 use Rattle.selecting.specs.declared.Entry.{Entry}
 use Rattle.selecting.specs.declared.Report.{Report}
 use Rattle.selecting.proofs.Told.{Told, enough_told, report_told}
@@ -33,24 +31,6 @@ fair_window p m s fit z a h low high below e =
     let w = fit.window in
     let old = s.old in
     subst (λ k. Fair k a h) n (s.fair z a h (omega arith, omega arith) (omega arith) e)
-
--- every counted number below n passes
-all_kept_counted : (f : ℕ → Bool) (a n : ℕ) → ((k : ℕ) → a ≤ k → k < a + n → f k ≡ true) → filter f (range_with_len a n) ≡ range_with_len a n
-all_kept_counted f a zero h = refl
-all_kept_counted f a (suc n) h =
-    let t = h a (omega arith) (omega arith) in
-    rw t (ap (λ xs. a ∷ xs) (all_kept_counted f (a + 1) n (λ k low high. h k (omega arith) (omega arith))))
-
--- where every place is marked, all are left
-pub all_left : (r : Report) → r.marked ≡ replicate 400 true → left r ≡ shown r
-all_left r all =
-    let few = r.few in
-    let long = r.long in
-    let size = r.size in
-    let mark : marks r.marked size ≡ range_with_len 0 size =
-    all_kept_counted (λ k. get_or r.marked k false) 0 size (λ k _ high. ap (λ xs. get_or xs k false) all ∙ get_or-replicate 400 k true false (omega arith)) in
-    ap (map (λ k. get_or r.places k nowhere)) mark
-    ∙ sym (fill_by_all (λ k. get_or r.places k nowhere) (take size r.places) size nowhere (length-take-le size r.places (omega arith)) (λ k l. get_or-take size r.places k nowhere l))
 
 module _ (p : Pool) (now : ℕ) (m : Meaning) (q : Question) (good : within p ≡ true) (sound : Sound m) (fit : Fit p m) (questions : first_no (choose_questions p now q) ≡ 0) (some : 0 < length (candidates p now q)) (es : List Entry) (all : map candidate_of es ≡ candidates p now q) (told : AllByRecursion (Told p now m q) es) (set : AllByRecursion (λ e. SetSubframe p (reported e)) es) where
   none_enough : (n : ℕ) → n ≤ 44 → NoneBelow es n → (r : ℕ) → r < n → enough p now m q r ≡ false
@@ -73,7 +53,7 @@ module _ (p : Pool) (now : ℕ) (m : Meaning) (q : Question) (good : within p �
         places = are;
         law = subst (Reported p now m q r.raise) (sym are) (report_law p now m q r.raise good some leave);
         subframes = all_shuffled (SetSubframe p) (map reported first) (shown r) made.first.places (All-map (SetSubframe p) reported first right);
-        marked = all_left r made.first.marked;
+        marked = made.first.marked;
         question = ap question_of made.first.question_is ∙ same;
         apart = made.first.apart_is ∙ far;
       }

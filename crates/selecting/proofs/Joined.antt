@@ -20,6 +20,7 @@ use Rattle.choosing.specs.declared.Question.{Question as Asked}
 use Rattle.measuring.specs.Means.{MeansAre}
 use Rattle.measuring.specs.declared.MeanRow.{MeanRow}
 use Rattle.reserving.specs.Needs.{NeedsAre}
+use Rattle.reserving.specs.declared.Need.{Need}
 use Rattle.selecting.specs.Chosen.{Selected, Chosen}
 use Rattle.selecting.specs.Lists.{rows_of}
 use Rattle.selecting.specs.declared.Report.{Report}
@@ -46,7 +47,7 @@ passed p now q e =
 pub stopped : (p : Pool) (now : ℕ) (m : Meaning) (q : Question) (e : Refusal) → first_no (choose_questions p now q) ≡ number e → Chosen p now m q (Err e)
 stopped p now m q e is = inl (is, λ z. let n = number_some e in omega arith)
 
-module _ (p : Pool) (now : ℕ) (m : Meaning) (good : within p ≡ true) (sound : Sound m) (fit : Fit p m) (asked : Asked) (c : Candidates) (found : Listed p now (question_of asked) c) (needs : List (List ℕ)) (means : List MeanRow) (apart : ℕ) (far : apart ≡ interval p (question_of asked)) (needed : NeedsAre p m (question_of asked) (slots_of c) needs) (heard : MeansAre p m (question_of asked) (slots_of c) means) where
+module _ (p : Pool) (now : ℕ) (m : Meaning) (good : within p ≡ true) (sound : Sound m) (fit : Fit p m) (asked : Asked) (c : Candidates) (found : Listed p now (question_of asked) c) (needs : List (List Need)) (means : List MeanRow) (apart : ℕ) (far : apart ≡ interval p (question_of asked)) (needed : NeedsAre p m (question_of asked) (slots_of c) needs) (heard : MeansAre p m (question_of asked) (slots_of c) means) where
   pub chosen : (r : Result Report Refusal) → Selected (rows_of (slots_of c) c.width needs means (length (slots_of c))) asked apart r → Chosen p now m (question_of asked) r
   chosen (Ok r) w =
       let q = question_of asked in

@@ -4,6 +4,5 @@ pub mod Told
 pub mod Picked
 pub mod Listed
 pub mod Answered
-pub mod Marked
 pub mod Asked
 pub mod Joined

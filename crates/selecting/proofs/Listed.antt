@@ -5,6 +5,7 @@ use Rattle.std.specs.List.{range_with_len, flat_map, AllByRecursion}
 use Rattle.std.proofs.lemmas.List.FromFn.{fill_by_all}
 use Rattle.std.proofs.ByRecursion.{All-append, All-get_or, All-map, All-weaker}
 use Rattle.std.proofs.lemmas.List.{map-append}
+use Rattle.std.proofs.lemmas.List.Folds.{flat_map-map}
 use Rattle.std.proofs.lemmas.Bool.{cases_Bool, and_parts}
 use Rattle.rules.specs.Calendar.{Pool, in_set, in_pool, index}
 use Rattle.rules.specs.Choose.{Question, Place as Meant, across, joined_all, subframes, candidates}
@@ -14,6 +15,7 @@ use Rattle.choosing.specs.declared.Slot.{Slot}
 use Rattle.measuring.specs.Means.{MeansAre, silent}
 use Rattle.measuring.specs.declared.MeanRow.{MeanRow}
 use Rattle.reserving.specs.Needs.{NeedsAre}
+use Rattle.reserving.specs.declared.Need.{Need}
 use Rattle.selecting.specs.Chosen.{SetSubframe}
 use Rattle.selecting.specs.Entries.{candidate_of, reported}
 use Rattle.selecting.specs.Lists.{entry_at, row_of, rows_of}
@@ -24,10 +26,6 @@ map_joined : {X Y Z : Type 0} (f : Y → Z) (g : X → List Y) (h : X → List Z
 map_joined f g h [] e = refl
 map_joined f g h (x ∷ xs) e = map-append f (g x) (flat_map g xs) ∙ ap (λ ys. ys ++ map f (flat_map g xs)) (e x) ∙ ap (λ ys. h x ++ ys) (map_joined f g h xs e)
 
-joined_map : {X Y Z : Type 0} (f : X → Y) (h : Y → List Z) (xs : List X) → flat_map h (map f xs) ≡ flat_map (λ x. h (f x)) xs
-joined_map f h [] = refl
-joined_map f h (x ∷ xs) = ap (λ ys. h (f x) ++ ys) (joined_map f h xs)
-
 joined_is : {X Z : Type 0} (h : X → List Z) (xs : List X) → joined_all (map h xs) ≡ flat_map h xs
 joined_is h [] = refl
 joined_is h (x ∷ xs) = ap (λ ys. h x ++ ys) (joined_is h xs)
@@ -35,12 +33,12 @@ joined_is h (x ∷ xs) = ap (λ ys. h x ++ ys) (joined_is h xs)
 -- by the places of a list, and by the list
 joined_places : {X Z : Type 0} (h : X → List Z) (d : X) (xs : List X) → flat_map (λ i. h (get_or xs i d)) (range_with_len 0 (length xs)) ≡ flat_map h xs
 joined_places h d xs =
-    sym (joined_map (λ i. get_or xs i d) h (range_with_len 0 (length xs))) ∙ ap (flat_map h) (sym (fill_by_all (λ i. get_or xs i d) xs (length xs) d refl (λ k l. refl)))
+    sym (flat_map-map h (λ i. get_or xs i d) (range_with_len 0 (length xs))) ∙ ap (flat_map h) (sym (fill_by_all (λ i. get_or xs i d) xs (length xs) d refl (λ k l. refl)))
 
 abbrev places : ℕ → ℕ → List Meant
 places width y = map (λ x. record { channel = x; at = y }) (range_with_len 0 width)
 
-module _ (p : Pool) (now : ℕ) (q : Question) (slots : List Slot) (width : ℕ) (needs : List (List ℕ)) (means : List MeanRow) (are : slots ≡ map (slot_at p) (subframes p now q)) (wide : width ≡ p.channels + 1 - q.length) where
+module _ (p : Pool) (now : ℕ) (q : Question) (slots : List Slot) (width : ℕ) (needs : List (List Need)) (means : List MeanRow) (are : slots ≡ map (slot_at p) (subframes p now q)) (wide : width ≡ p.channels + 1 - q.length) where
   pub rows_are : map candidate_of (rows_of slots width needs means (length slots)) ≡ candidates p now q
   unfolding candidates
   rows_are =
@@ -49,7 +47,7 @@ module _ (p : Pool) (now : ℕ) (q : Question) (slots : List Slot) (width : ℕ)
       ∙ joined_places (λ (s : Slot). places width s.index) origin slots
       ∙ ap (λ w. flat_map (λ (s : Slot). places w s.index) slots) wide
       ∙ ap (flat_map (λ (s : Slot). across p q s.index)) are
-      ∙ joined_map (slot_at p) (λ (s : Slot). across p q s.index) (subframes p now q)
+      ∙ flat_map-map (λ (s : Slot). across p q s.index) (slot_at p) (subframes p now q)
       ∙ sym (joined_is (λ s. across p q (index p s)) (subframes p now q))
 
 -- what holds of each counted number
@@ -62,7 +60,7 @@ all_joined P g [] a = tt
 all_joined P g (x ∷ xs) a = All-append P (g x) (flat_map g xs) a.0 (all_joined P g xs a.1)
 
 -- what holds of each entry by its slot and its first sub-channel
-all_rows : (P : Entry → Type 0) (slots : List Slot) (width : ℕ) (needs : List (List ℕ)) (means : List MeanRow) → ((i x : ℕ) → i < length slots → x < width → P (entry_at (get_or slots i origin) (get_or needs i []) (get_or means i silent) x)) → AllByRecursion P (rows_of slots width needs means (length slots))
+all_rows : (P : Entry → Type 0) (slots : List Slot) (width : ℕ) (needs : List (List Need)) (means : List MeanRow) → ((i x : ℕ) → i < length slots → x < width → P (entry_at (get_or slots i origin) (get_or needs i []) (get_or means i silent) x)) → AllByRecursion P (rows_of slots width needs means (length slots))
 all_rows P slots width needs means h =
     all_joined P (row_of slots width needs means) (range_with_len 0 (length slots))
     (all_counted (λ i. AllByRecursion P (row_of slots width needs means i)) 0 (length slots)
@@ -72,11 +70,11 @@ all_rows P slots width needs means h =
     (all_counted (λ x. P (entry_at (get_or slots i origin) (get_or needs i []) (get_or means i silent) x)) 0 width
     (λ x _ top. h i x few (omega arith)))))
 
-module _ (p : Pool) (now : ℕ) (m : Meaning) (q : Question) (slots : List Slot) (width : ℕ) (needs : List (List ℕ)) (means : List MeanRow) where
+module _ (p : Pool) (now : ℕ) (m : Meaning) (q : Question) (slots : List Slot) (width : ℕ) (needs : List (List Need)) (means : List MeanRow) where
   pub rows_told : width ≡ p.channels + 1 - q.length → q.length ≤ p.channels → 1 ≤ q.length → p.channels ≤ 20 → NeedsAre p m q slots needs → MeansAre p m q slots means → AllByRecursion (Told p now m q) (rows_of slots width needs means (length slots))
   rows_told wide short some few n a =
       all_rows (Told p now m q) slots width needs means
-      (λ i x low top. record { survives_at = λ r h. n i x r low (omega arith) h; mean_is = a i x low (omega arith) (omega arith) })
+      (λ i x low top. record { survives_at = λ r h. n i x r low (omega arith); mean_is = a i x low (omega arith) (omega arith) })
 
 -- each subframe of the candidates is in the set
 kept_true : (f : ℕ → Bool) (xs : List ℕ) → AllByRecursion (λ s. f s ≡ true) (filter f xs)
@@ -87,7 +85,7 @@ kept_true f (x ∷ xs) =
     (λ (t : f x ≡ false). subst (λ b. AllByRecursion (λ s. f s ≡ true) (cond b (x ∷ filter f xs) (filter f xs))) (sym t) (kept_true f xs))
     (cases_Bool (f x))
 
-pub rows_set : (p : Pool) (now : ℕ) (q : Question) (slots : List Slot) (width : ℕ) (needs : List (List ℕ)) (means : List MeanRow) → slots ≡ map (slot_at p) (subframes p now q) → AllByRecursion (λ e. SetSubframe p (reported e)) (rows_of slots width needs means (length slots))
+pub rows_set : (p : Pool) (now : ℕ) (q : Question) (slots : List Slot) (width : ℕ) (needs : List (List Need)) (means : List MeanRow) → slots ≡ map (slot_at p) (subframes p now q) → AllByRecursion (λ e. SetSubframe p (reported e)) (rows_of slots width needs means (length slots))
 rows_set p now q slots width needs means are =
     let Right : Slot → Type 0 = λ s. (in_set p s.subframe ≡ true) × (index p s.subframe ≡ s.index) in
     let wanted : ℕ → Bool = λ s. in_set p s && in_pool p (index p s) in

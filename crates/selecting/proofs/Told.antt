@@ -17,6 +17,7 @@ use Rattle.rules.proofs.Sorting.{Sorted, sorted_ordered}
 use Rattle.rules.proofs.Tallies.{tally, tally_shuffled, ordered_is}
 use Rattle.rules.proofs.Totals.{rising_sorted}
 use Rattle.measuring.specs.Means.{fraction_of}
+use Rattle.reserving.specs.Needs.{bars}
 use Rattle.selecting.specs.Entries.{candidate_of, before, place_of, sooner, reported}
 use Rattle.selecting.specs.Lists.{free}
 use Rattle.selecting.specs.Lifts.{leaves}
@@ -38,7 +39,7 @@ sorted_map {X} {Y} f lt lt' P same (x ∷ xs) good s = (here xs good.1 s.0, sort
 module _ (p : Pool) (now : ℕ) (m : Meaning) (q : Question) where
   -- what an entry says of its candidate: at which raises it survives, and its mean
   pub record Told (e : Entry) : Type 0 where
-    pub survives_at : (r : ℕ) → r ≤ 43 → leb e.need r ≡ survives p m q r (candidate_of e)
+    pub survives_at : (r : ℕ) → r ≤ 43 → not (bars e.need r) ≡ survives p m q r (candidate_of e)
     pub mean_is : fraction_of e.mean ≡ mean p m q (candidate_of e)
 
   kept_told : (r : ℕ) → r ≤ 43 → (es : List Entry) → AllByRecursion Told es → map candidate_of (filter (free r) es) ≡ filter (survives p m q r) (map candidate_of es)
@@ -47,9 +48,9 @@ module _ (p : Pool) (now : ℕ) (m : Meaning) (q : Question) where
       let IH = kept_told r low es told.1 in
       let t = told.0.survives_at r low in
       ⊎_elim
-      (λ (y : leb e.need r ≡ true). let y' = sym t ∙ y in rw (y, y') (ap (λ xs. candidate_of e ∷ xs) IH))
-      (λ (n : leb e.need r ≡ false). let n' = sym t ∙ n in rw (n, n') IH)
-      (cases_Bool (leb e.need r))
+      (λ (y : not (bars e.need r) ≡ true). let y' = sym t ∙ y in rw (y, y') (ap (λ xs. candidate_of e ∷ xs) IH))
+      (λ (n : not (bars e.need r) ≡ false). let n' = sym t ∙ n in rw (n, n') IH)
+      (cases_Bool (not (bars e.need r)))
 
   module _ (es : List Entry) (all : map candidate_of es ≡ candidates p now q) (told : AllByRecursion Told es) where
     pub survivors_told : (r : ℕ) → r ≤ 43 → map candidate_of (filter (free r) es) ≡ survivors p now m q r

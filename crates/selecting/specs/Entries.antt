@@ -5,16 +5,6 @@ use Rattle.measuring.specs.Means.{fraction_of}
 use Rattle.selecting.specs.declared.Entry.{Entry}
 use Rattle.selecting.specs.declared.Place.{Place}
 
--- the candidate that an entry stands for
-abbrev pub candidate_of : Entry → Meant
-candidate_of e = record { channel = e.channel; at = e.slot.index }
-
--- a stands before b: the lower mean, then the lower index, then the lower sub-channel
-abbrev pub before : Entry → Entry → Bool
-before a b =
-    lower (fraction_of a.mean) (fraction_of b.mean)
-    || (not (lower (fraction_of b.mean) (fraction_of a.mean)) && earlier (candidate_of a) (candidate_of b))
-
 -- the candidate that a place stands for
 abbrev pub place_of : Place → Meant
 place_of a = record { channel = a.channel; at = a.index }
@@ -29,4 +19,14 @@ nowhere = record { subframe = 0; index = 0; channel = 0 }
 
 -- the place that an entry is reported at
 abbrev pub reported : Entry → Place
-reported e = record { subframe = e.slot.subframe; index = e.slot.index; channel = e.channel }
+reported e = e.place
+
+-- the candidate that an entry stands for
+abbrev pub candidate_of : Entry → Meant
+candidate_of e = place_of e.place
+
+-- a stands before b: the lower mean, then the lower index, then the lower sub-channel
+abbrev pub before : Entry → Entry → Bool
+before a b =
+    lower (fraction_of a.mean) (fraction_of b.mean)
+    || (not (lower (fraction_of b.mean) (fraction_of a.mean)) && earlier (candidate_of a) (candidate_of b))

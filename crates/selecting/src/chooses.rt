@@ -10,20 +10,21 @@ ghost use Rattle.selecting.specs.Chosen.{Selected, Chosen};
 use crate::lists::list;
 use crate::raises::{RaiseGuard, lift};
 use crate::reports::report;
-use crate::{Entry, Raise, Report};
+use crate::{Raise, Report};
 use answer::Refusal;
+use arrayvec::ArrayVec;
 use choosing::finds::candidates;
-use choosing::{Candidates, Question, Slot};
+use choosing::{Candidates, Question};
 use measuring::MeanRow;
 use measuring::means::means;
 use pool::Pool;
-use reserving::needs;
+use reserving::{Need, needs};
 use sensing::Asking;
 
 // Selects among candidates of which it is known from which raise each survives, and its mean.
 fn select(
     found: &Candidates,
-    needs: &[[u8; 20]; 100],
+    needs: &[[Need; 20]; 100],
     means: &[MeanRow; 100],
     q: &Question,
     apart: u32,
@@ -31,20 +32,10 @@ fn select(
 ) -> Result<Report, Refusal>
     ensures { Selected (rows_of (slots_of found.now) found.now.width needs.now means.now (length (slots_of found.now))) q.now apart result }
 {
-    let mut entries = [Entry {
-        slot: Slot {
-            subframe: 0,
-            index: 0,
-        },
-        channel: 0,
-        need: 0,
-        mean: None,
-    }; 2000];
-    let count = list(&mut entries, found.slots(), found.width(), needs, means);
-    if !lift(&entries[..count], raise) {
-        return Err(Refusal::TooFew);
-    }
-    Ok(report(&mut entries[..count], raise.steps, *q, apart))
+    let mut entries = ArrayVec::new();
+    list(&mut entries, found, needs, means);
+    lift(&entries, raise)?;
+    Ok(report(&mut entries, raise.steps, *q, apart))
 }
 
 // Looks for the candidates of a question, for what was heard of them, and selects among them.

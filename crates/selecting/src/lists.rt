@@ -1,52 +1,64 @@
 // The list of all candidates, with the raise from which each survives and its mean.
-ghost use Rattle.std.specs.Prelude.{◌≡◌, ℕ, ◌+◌, ◌*◌, ◌<◌, ◌≤◌, List, [], ◌∷◌, ◌++◌, map, length, take, count_by, filter};
+ghost use Rattle.std.specs.Prelude.{◌≡◌, ℕ, ◌+◌, ◌*◌, ◌≤◌, List, [], ◌∷◌, ◌++◌, map, length, count_by, filter};
 ghost use Rattle.std.specs.List.{range_with_len};
+ghost use Rattle.arrayvec.specs.ArrayVec.{array_vec_len};
+ghost use Rattle.choosing.specs.Found.{slots_of};
 ghost use Rattle.selecting.specs.Lists.{entry_at, rows_of, free};
 
-use crate::Entry;
-use choosing::Slot;
+use crate::{Entry, Place};
+use arrayvec::ArrayVec;
+use choosing::{Candidates, Slot};
 use measuring::MeanRow;
+use reserving::Need;
 
-// Writes the candidates of one slot behind the first n entries.
+// Adds the candidates of one slot.
 fn list_slot(
-    entries: &mut [Entry; 2000],
-    n: usize,
-    slot: Slot,
+    entries: &mut ArrayVec<Entry, 2000>,
+    slot: &Slot,
     width: u8,
-    needs: &[u8; 20],
+    needs: &[Need; 20],
     means: &MeanRow,
 )
-    requires { (n + width ≤ 2000) × (width ≤ 20) }
-    ensures { take (n + width) entries.new ≡ take n entries.old ++ map (entry_at slot needs.now means.now) (range_with_len 0 width) }
+    requires { (array_vec_len entries.old + width ≤ 2000) × (width ≤ 20) }
+    ensures { entries.new.items ≡ entries.old.items ++ map (entry_at slot.now needs.now means.now) (range_with_len 0 width) }
 {
-    for x in 0..width {
-        entries[n + x as usize] = Entry {
-            slot,
-            channel: x,
-            need: needs[x as usize],
-            mean: means.means[x as usize],
-        };
+    // The first sub-channels are numbers, which stand in the entries.
+    for channel in 0..width {
+        entries.push(Entry {
+            place: Place {
+                subframe: slot.subframe,
+                index: slot.index,
+                channel,
+            },
+            need: needs[usize::from(channel)],
+            mean: means.means[usize::from(channel)],
+        });
     }
 }
 
-// Writes all candidates, in order of index and then sub-channel, and says how many there are.
+// Adds all candidates to an empty list, in order of index and then sub-channel.
 pub(crate) fn list(
-    entries: &mut [Entry; 2000],
-    slots: &[Slot],
-    width: u8,
-    needs: &[[u8; 20]; 100],
+    entries: &mut ArrayVec<Entry, 2000>,
+    found: &Candidates,
+    needs: &[[Need; 20]; 100],
     means: &[MeanRow; 100],
-) -> usize
-    requires { (length slots.now ≤ 100) × (width ≤ 20) }
-    ensures value { take result entries.new ≡ rows_of slots.now width needs.now means.now (length slots.now) }
-    ensures count { (result ≡ length slots.now * width) × (result ≤ 2000) }
+)
+    requires { entries.old.items ≡ [] }
+    ensures { entries.new.items ≡ rows_of (slots_of found.now) found.now.width needs.now means.now (length (slots_of found.now)) }
 {
-    let mut n = 0;
-    for (i, slot) in slots.iter().enumerate() {
-        list_slot(entries, n, *slot, width, &needs[i], &means[i]);
-        n += width as usize;
+    let width = found.width();
+    for (i, slot) in found.slots().iter().enumerate() {
+        list_slot(entries, slot, width, &needs[i], &means[i]);
     }
-    n
+}
+
+impl Entry {
+    // Does it survive at a raise?
+    fn survives(&self, raise: u8) -> bool
+        ensures { result ≡ free raise self.now }
+    {
+        self.need.allows(raise)
+    }
 }
 
 // How many entries survive at a raise.
@@ -54,27 +66,12 @@ pub(crate) fn count_free(entries: &[Entry], raise: u8) -> usize
     ensures value { result ≡ count_by (free raise) entries.now }
     ensures few { result ≤ length entries.now }
 {
-    let mut n = 0;
-    for e in entries {
-        if e.need <= raise {
-            n += 1;
-        }
-    }
-    n
+    entries.iter().filter(|e| e.survives(raise)).count()
 }
 
-// Moves the entries that survive at a raise to the front, in their order, and says how many there are.
-pub(crate) fn keep_free(entries: &mut [Entry], raise: u8) -> usize
-    ensures value { take result entries.new ≡ filter (free raise) entries.old }
-    ensures few { result ≤ length entries.old }
+// Keeps the entries that survive at a raise, in their order.
+pub(crate) fn keep_free(entries: &mut ArrayVec<Entry, 2000>, raise: u8)
+    ensures { entries.new.items ≡ filter (free raise) entries.old.items }
 {
-    let mut front = 0;
-    for i in 0..entries.len() {
-        let e = entries[i];
-        if e.need <= raise {
-            entries[front] = e;
-            front += 1;
-        }
-    }
-    front
+    entries.retain(|e| e.survives(raise));
 }

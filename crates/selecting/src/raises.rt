@@ -4,6 +4,7 @@ ghost use Rattle.selecting.specs.Lifts.{Lifted};
 
 use crate::lists::count_free;
 use crate::{Entry, Raise};
+use answer::Refusal;
 
 impl Raise {
     pub fn new() -> Raise
@@ -25,17 +26,16 @@ impl Drop for RaiseGuard<'_> {
     }
 }
 
-// Raises from zero until a fifth of the candidates survives; false where 43 raises do not suffice.
-pub(crate) fn lift(entries: &[Entry], raise: &mut Raise) -> bool
+// Raises from zero until a fifth of the candidates survives, or answers 41 where 43 raises do not suffice.
+pub(crate) fn lift(entries: &[Entry], raise: &mut Raise) -> Result<(), Refusal>
     requires { length entries.now ≤ 2000 }
     ensures { Lifted entries.now result raise.new.steps }
 {
-    raise.steps = 0;
-    for _k in 0..44u8 {
-        if 5 * count_free(entries, raise.steps) >= entries.len() {
-            return true;
+    for steps in 0..44u8 {
+        raise.steps = steps;
+        if 5 * count_free(entries, steps) >= entries.len() {
+            return Ok(());
         }
-        raise.steps += 1;
     }
-    false
+    Err(Refusal::TooFew)
 }

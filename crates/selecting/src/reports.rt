@@ -1,44 +1,49 @@
 // The report of a selection.
-ghost use Rattle.std.specs.Prelude.{◌≡◌, ℕ, ◌+◌, ◌*◌, ◌<◌, ◌≤◌, true, List, [], ◌∷◌, ◌++◌, map, length, take};
+ghost use Rattle.std.specs.Prelude.{◌≡◌, ℕ, ◌+◌, ◌*◌, ◌≤◌, true, List, [], ◌∷◌, ◌++◌, map, length, take};
 ghost use Rattle.std.specs.List.Sorted.{IsPermutation};
+ghost use Rattle.arrayvec.specs.ArrayVec.{array_vec_len};
 ghost use Rattle.rules.specs.Ranks.{rising};
 ghost use Rattle.selecting.specs.Entries.{reported, sooner, before};
 ghost use Rattle.selecting.specs.Lifts.{leaves};
 ghost use Rattle.selecting.specs.Made.{Of, Ranked};
 
 use crate::lists::keep_free;
+use crate::ranks::rank;
 use crate::{Entry, Place, Report};
+use arrayvec::ArrayVec;
 use choosing::Question;
 
-// The places of entries, in their order.
-fn places_of(entries: &[Entry]) -> [Place; 400]
+// The places of entries, in order of index and then sub-channel.
+fn places_of(entries: &[Entry]) -> ArrayVec<Place, 400>
     requires { length entries.now ≤ 400 }
-    ensures { take (length entries.now) result ≡ map reported entries.now }
+    ensures shuffled { IsPermutation (map reported entries.now) result.items }
+    ensures ordered { rising sooner result.items ≡ true }
 {
-    let mut places = [Place {
-        subframe: 0,
-        index: 0,
-        channel: 0,
-    }; 400];
-    for (i, e) in entries.iter().enumerate() {
-        places[i] = Place {
-            subframe: e.slot.subframe,
-            index: e.slot.index,
-            channel: e.channel,
-        };
+    let mut places = ArrayVec::new();
+    for e in entries {
+        places.push(e.place);
     }
+    sort_places(&mut places);
     places
 }
 
-// The first n places in order of index and then sub-channel.
-fn sort_first(places: [Place; 400], n: usize) -> [Place; 400]
-    requires { n ≤ 400 }
-    ensures shuffled { IsPermutation (take n places) (take n result) }
-    ensures ordered { rising sooner (take n result) ≡ true }
+fn sort_places(places: &mut [Place])
+    ensures shuffled { IsPermutation places.old places.new }
+    ensures ordered { rising sooner places.new ≡ true }
 {
-    let mut all = places;
-    all[..n].sort_unstable();
-    all
+    places.sort_unstable();
+}
+
+// The same places once more.
+fn copy_of(places: &[Place]) -> ArrayVec<Place, 400>
+    requires { length places.now ≤ 400 }
+    ensures { result.items ≡ places.now }
+{
+    let mut copy = ArrayVec::new();
+    for place in places {
+        copy.push(*place);
+    }
+    copy
 }
 
 // A report of entries, with every place marked.
@@ -46,34 +51,36 @@ fn report_of(entries: &[Entry], raise: u8, question: Question, apart: u32) -> Re
     requires { (length entries.now ≤ 400) × (raise ≤ 43) }
     ensures { Of entries.now raise question apart result }
 {
-    let size = entries.len();
-    let places = sort_first(places_of(entries), size);
+    let places = places_of(entries);
     Report {
+        marked: copy_of(&places),
         places,
-        marked: [true; 400],
-        size,
         raise,
         question,
         apart,
     }
 }
 
-// Puts the first n entries in the order of choosing.
-fn rank_first(entries: &mut [Entry], n: usize)
-    requires { n ≤ length entries.old }
-    ensures shuffled { IsPermutation (take n entries.old) (take n entries.new) }
-    ensures ordered { rising before (take n entries.new) ≡ true }
+// Puts the entries in the order of choosing.
+fn rank_all(entries: &mut [Entry])
+    ensures shuffled { IsPermutation entries.old entries.new }
+    ensures ordered { rising before entries.new ≡ true }
 {
-    entries[..n].sort_unstable();
+    entries.sort_unstable_by(rank);
 }
 
 // Reports the first fifth, in the order of choosing, of the entries that survive at a raise. The raise leaves so many.
-pub(crate) fn report(entries: &mut [Entry], raise: u8, question: Question, apart: u32) -> Report
-    requires { (length entries.old ≤ 2000) × (raise ≤ 43) × (leaves entries.old raise ≡ true) }
-    ensures { Ranked entries.old raise question apart result }
+pub(crate) fn report(
+    entries: &mut ArrayVec<Entry, 2000>,
+    raise: u8,
+    question: Question,
+    apart: u32,
+) -> Report
+    requires { (raise ≤ 43) × (leaves entries.old.items raise ≡ true) }
+    ensures { Ranked entries.old.items raise question apart result }
 {
     let size = (entries.len() + 4) / 5;
-    let left = keep_free(entries, raise);
-    rank_first(entries, left);
+    keep_free(entries, raise);
+    rank_all(entries);
     report_of(&entries[..size], raise, question, apart)
 }

@@ -1,4 +1,4 @@
-use Rattle.std.proofs.Common.{refl, arith}
+use Rattle.std.proofs.Common.{arith}
 use Rattle.std.proofs.lemmas.Result.{err_from_is_err_and}
 use Rattle.pool.proofs.Kept.{keeps}
 use Rattle.pool.specs.Pools.{meaning}
@@ -11,17 +11,15 @@ returns-in_err-check c early =
     let p = err_from_is_err_and c.from_residual.result c.from_residual.ensures.1 in
     rw (p.1, p.2) (refused (meaning c.args.pool.now) c.args.at (question_of c.args.q.now) c.in_err-check.field-0.0 c.in_err-check.ensures)
 
-pub overflow_add-q : goal.overflow_add-q
-overflow_add-q c = let w = within_limits (meaning c.args.pool.now) (question_of c.args.q.now) c.in_ok-check.ensures in omega arith
-
-pub overflow_sub-q : goal.overflow_sub-q
-overflow_sub-q c = let w = within_limits (meaning c.args.pool.now) (question_of c.args.q.now) c.in_ok-check.ensures in omega arith
+pub overflow_sub-channels : goal.overflow_sub-channels
+overflow_sub-channels c = let w = within_limits (meaning c.args.pool.now) (question_of c.args.q.now) c.in_ok-check.ensures in omega arith
 
 pub returns-then-found-eq0 : goal.returns-then-found-eq0
 returns-then-found-eq0 c early =
     let p = meaning c.args.pool.now in
     let q = question_of c.args.q.now in
-    let w = facts p c.args.at q c.find-found.result _ _ _ c.find-found.ensures.slots c.find-found.ensures.width (omega arith) refl (omega arith) in
+    let limits = within_limits p q c.in_ok-check.ensures in
+    let w = facts p c.args.at q c.find-found.result _ _ _ c.find-found.ensures.slots c.find-found.ensures.width (omega arith) (omega arith) (omega arith) in
     none_there p c.args.at q c.in_ok-check.ensures (nothing_found p c.args.at q c.find-found.result w c.if-found-eq0.true)
 
 pub returns : goal.returns
@@ -29,7 +27,7 @@ returns c early =
     let p = meaning c.args.pool.now in
     let q = question_of c.args.q.now in
     let limits = within_limits p q c.in_ok-check.ensures in
-    let w = facts p c.args.at q c.find-found.result _ _ _ c.find-found.ensures.slots c.find-found.ensures.width (omega arith) refl (omega arith) in
+    let w = facts p c.args.at q c.find-found.result _ _ _ c.find-found.ensures.slots c.find-found.ensures.width (omega arith) (omega arith) (omega arith) in
     record {
       answer = some_there p c.args.at q c.in_ok-check.ensures (something_found p c.args.at q c.find-found.result w limits c.if-found-eq0.false);
       slots = w.slots;

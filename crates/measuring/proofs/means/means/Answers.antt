@@ -1,39 +1,32 @@
-use Rattle.std.proofs.Common.{◌≡◌, ◌+◌, ◌-◌, ◌<◌, ◌≤◌, length, ap, ◌∙◌, arith}
+use Rattle.std.proofs.Common.{rules, ◌≡◌, ℕ, ◌+◌, ◌-◌, ◌<◌, ◌≤◌, List, ◌++◌, length, drop, get_or, ap, ◌∙◌, sym, subst, arith}
+use Rattle.std.proofs.Math.ListN.{get_or-append}
 use Rattle.pool.specs.Pools.{meaning}
 use Rattle.rules.specs.Calendar.{window}
 use Rattle.rules.specs.Choose.{mean}
 use Rattle.choosing.specs.Asked.{question_of}
+use Rattle.choosing.specs.Found.{slots_of}
 use Rattle.choosing.specs.Fits.{index_of, place_of}
-use Rattle.measuring.specs.Sums.{sum_at}
-use Rattle.measuring.proofs.Adding.{small_weaker, small_none, walked_none, walked_more, walked_mean}
+use Rattle.measuring.specs.Sums.{Added, Walked}
+use Rattle.measuring.proofs.Adding.{blank, walked_more, walked_mean}
 use Rattle.measuring.proofs.means.means.Goals as goal
 
-pub loop-k-init : goal.loop-k-init
-loop-k-init g c =
+pub loop-z-preserved : goal.loop-z-preserved
+loop-z-preserved g c =
     let m = g.M.Asking.meaning c.args.m.now in
     let q = question_of c.args.q.now in
-    let low = c.next_index.result - c.window-window.result in
-    let few = c.slots-slots.ensures.few in (
-      (λ i l. walked_none m q c.sample_step-step.result low (index_of c.slots-slots.result.now i) i (omega arith)),
-      (λ i l. small_none i (omega arith)),
-    )
-
-pub add_index-requires : goal.add_index-requires
-add_index-requires g c =
-    let s = g.M.Asking.sound c.args.m.now in
-    let n = c.next_index.ensures in
-    let w = c.window-window.ensures in
-    let old = s.old in
-    let short = s.short in
-    ((omega arith, omega arith), c.slots-slots.ensures.few, λ i l. small_weaker c.loop-k.k 1000 (sum_at c.loop-k.sums i) (omega arith) (c.loop-k.invariant.1 i l))
-
-pub loop-k-preserved : goal.loop-k-preserved
-loop-k-preserved g c =
-    let m = g.M.Asking.meaning c.args.m.now in
-    let q = question_of c.args.q.now in
-    let low = c.next_index.result - c.window-window.result in (
-      (λ i l. walked_more m q c.sample_step-step.result low c.loop-k.k (index_of c.slots-slots.result.now i) (sum_at c.loop-k.sums i) (sum_at c.add_index.new.sums i) (c.loop-k.invariant.0 i l) (c.add_index.ensures.added i l)),
-      c.add_index.ensures.small c.loop-k.k c.loop-k.invariant.1,
+    let low = c.next_index-next.result - m.window in
+    let k = c.loop-z.z - low in
+    let y : ℕ → ℕ = index_of (slots_of c.args.c.now) in
+    let step = c.sample_step-step.result in
+    let w = c.window.ensures in
+    let from = c.loop-z.auto.z in
+    let here : c.loop-z.z ≡ low + k = omega arith in
+    let next : k + 1 ≡ c.loop-z.z + 1 - low = omega arith in (
+      (λ i h d.
+          subst (λ n. Walked m q step low n (y i) (get_or c.add_index.new.sums i d)) next
+          (walked_more m q step low k (y i) (get_or c.loop-z.sums i d) (get_or c.add_index.new.sums i d) (c.loop-z.invariant.0 i h d)
+          (subst (λ n. Added m q step n (get_or c.loop-z.sums i d) (get_or c.add_index.new.sums i d)) here (c.add_index.ensures i (omega arith) d)))),
+      omega arith,
     )
 
 pub returns : goal.returns
@@ -41,15 +34,16 @@ returns g c fit i x l h w =
     let m = g.M.Asking.meaning c.args.m.now in
     let p = meaning c.args.pool.now in
     let q = question_of c.args.q.now in
-    let slots = c.slots-slots.ensures.value in
-    let low = c.next_index.result - c.window-window.result in
-    let n = c.next_index.ensures in
-    let v = c.window-window.ensures in
-    let same = fit.window in
-    let first : low ≡ m.next - window p = omega arith in
-    let many : c.loop-k.k ≡ window p = omega arith in
-    let few : i < length c.slots-slots.result.now = omega (arith, ap length slots) in
-    let wide : x + q.length ≤ m.channels = omega (arith, fit.channels) in
-    c.rows_of.ensures i x few h
-    ∙ walked_mean p m q c.sample_step-step.result low c.loop-k.k (index_of c.slots-slots.result.now i) x (sum_at c.loop-k.sums i) c.sample_step-step.ensures first many (c.loop-k.invariant.0 i few) h wide
-    ∙ ap (λ xs. mean p m q (place_of xs i x)) slots
+    let few = c.slots-slots.ensures.few in
+    let long = ap length c.slots-slots.ensures.value in
+    let all = c.loop-z.sums ++ drop (length c.slots-slots.result.now) c.none_yet-all.result in
+    let same : get_or all i blank ≡ get_or c.loop-z.sums i blank = get_or-append _ _ blank i (omega arith) in
+    let done = subst (Walked m q c.sample_step-step.result (c.next_index-next.result - m.window) (c.loop-z.z - (c.next_index-next.result - m.window)) (index_of (slots_of c.args.c.now) i)) (sym same) (c.loop-z.invariant.0 i l blank) in
+    let n = c.next_index-next.ensures in
+    let v = c.window.ensures in
+    let old = (g.M.Asking.sound c.args.m.now).old in
+    let end = c.loop-z.auto.z-end (omega arith) in
+    let same_window = fit.window in
+    let first : c.next_index-next.result - m.window ≡ m.next - window p = omega arith in
+    let many : c.loop-z.z - (c.next_index-next.result - m.window) ≡ window p = omega arith in
+    (c.rows.ensures i (omega arith) blank).each x h ∙ walked_mean p m q _ _ _ _ x (get_or all i blank) c.sample_step-step.ensures first many done h (omega (arith, fit.channels))

@@ -1,10 +1,9 @@
-use Rattle.std.proofs.Common.{◌≡◌, ℕ, ◌<◌, ◌≤◌, length, get_or}
-use Rattle.choosing.specs.Fits.{index_of}
-use Rattle.measuring.specs.Sums.{lies, More, sum_at}
+use Rattle.std.proofs.Common.{◌≡◌, ℕ, ◌<◌, ◌≤◌, slice_index, slice_index_or}
+use Rattle.measuring.specs.declared.Sum.{Sum}
+use Rattle.measuring.specs.Sums.{lies, More}
 use Rattle.measuring.proofs.sums.add_all.Given as goal
 
-abbrev pub invariant-loop-i : goal.invariant-loop-i
-invariant-loop-i l =
-    ((j : ℕ) → j < l.i → More (lies l.step l.z (index_of l.slots j)) (λ x. get_or l.row x 0) (sum_at l.initial.sums j) (sum_at l.sums j))
-    × ((j : ℕ) → l.i ≤ j → sum_at l.sums j ≡ sum_at l.initial.sums j)
-    × (length l.sums ≡ 100)
+abbrev pub invariant-loop-sum : goal.invariant-loop-sum
+invariant-loop-sum l =
+    ((i : ℕ) → i < l.sum-index → (d : Sum) → More (lies l.step l.z (slice_index_or l.initial.sums i d).at) (λ x. slice_index l.powers.from x) (slice_index_or l.initial.sums i d) (slice_index_or l.sums i d))
+    × ((i : ℕ) → l.sum-index ≤ i → (d : Sum) → slice_index_or l.sums i d ≡ slice_index_or l.initial.sums i d)

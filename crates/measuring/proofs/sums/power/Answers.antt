@@ -1,10 +1,13 @@
-use Rattle.std.proofs.Common.{◌+◌, ◌<◌, get_or, arith, rules}
-use Rattle.measuring.proofs.Adding.{sum_by_counting_more}
+use Rattle.std.proofs.Common.{rules, ◌≡◌, ℕ, ◌+◌, ◌-◌, ◌*◌, ◌<◌, ◌≤◌, List, length, take, drop, sum_by, ap, ◌∙◌, arith}
+use Rattle.measuring.specs.Sums.{total}
+use Rattle.measuring.proofs.Adding.{total_of}
 use Rattle.measuring.proofs.sums.power.Goals as goal
 
-pub loop-k-preserved : goal.loop-k-preserved
-loop-k-preserved c =
-    let more = sum_by_counting_more (λ a. get_or c.args.readings.now a 0) c.args.x c.loop-k.k in
-    let came = c.from-sum.ensures in
-    let few : get_or c.args.readings.now (c.args.x + c.loop-k.k) 0 < 4294967296 = search rules in
-    (omega arith, omega arith)
+pub returns-clause-value : goal.returns-clause-value
+returns-clause-value c = λ h.
+    let xs = c.args.readings.now in
+    let x = c.args.x in
+    let n = c.args.n in
+    let part : c.in-Some.part.now ≡ take (x + n - x) (drop x xs) = search rules in
+    let long : x + n - x ≡ n = omega arith in
+    c.sum_of.ensures.value ∙ ap (sum_by (λ r. r)) part ∙ ap (λ k. sum_by (λ r. r) (take k (drop x xs))) long ∙ total_of xs x n (omega arith)

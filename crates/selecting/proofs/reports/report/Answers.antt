@@ -1,31 +1,40 @@
-use Rattle.std.proofs.Common.{◌*◌, ◌≤◌, length, take, count_by, sym, ap, subst, arith, length-take}
+use Rattle.std.proofs.Common.{◌+◌, ◌*◌, ◌/◌, length, take, count_by, ap, subst, ◌∙◌, arith, length-take}
 use Rattle.std.specs.List.Sorted.{IsPermutation}
-use Rattle.std.proofs.lemmas.List.{take-take}
 use Rattle.std.proofs.lemmas.List.Sums.{length-filter}
 use Rattle.std.proofs.lemmas.Bool.{leb-true}
+use Rattle.arrayvec.proofs.ArrayVecLemmas.{items-with_items}
 use Rattle.rules.specs.Choose.{fifth}
 use Rattle.selecting.specs.Lists.{free}
 use Rattle.selecting.specs.Made.{Of}
 use Rattle.selecting.proofs.reports.report.Goals as goal
 
+pub slice_bounds-report_of-end : goal.slice_bounds-report_of-end
+slice_bounds-report_of-end c =
+    let es = c.args.entries.now.items in
+    let kept = c.keep_free.new.entries in
+    let ranked = c.rank_all.new.entries in
+    let same = c.rank_all.auto.entries in
+    let shown = ap length c.deref_mut.ensures.value in
+    let all = ap length (c.deref.ensures.0 ∙ items-with_items kept ranked (omega arith)) in
+    let left = ap length c.keep_free.ensures in
+    let many = length-filter (free c.args.raise) es in
+    let enough = leb-true (length es) (5 * count_by (free c.args.raise) es) c.requires.1 in
+    let cut = length-take ((c.len.result + 4) / 5) c.deref.result.now in
+    let n = c.len.ensures.value in
+    omega arith
+
 pub returns : goal.returns
 returns c =
     let a = c.args in
-    let es = a.entries.now in
-    let kept = c.keep_free-left.new.entries in
-    let ranked = c.rank_first.new.entries in
-    let n = c.keep_free-left.result in
-    let size = fifth (length es) in
-    let long = ap length c.keep_free-left.ensures.value in
-    let cut = length-take n kept in
-    let same = c.keep_free-left.auto.entries in
-    let many = length-filter (free a.raise) es in
-    let enough = leb-true (length es) (5 * count_by (free a.raise) es) c.requires.2 in
-    let few = c.keep_free-left.ensures.few in
-    let fits : size ≤ n = omega arith in
+    let es = a.entries.now.items in
+    let kept = c.keep_free.new.entries in
+    let ranked = c.rank_all.new.entries in
+    let same = c.rank_all.auto.entries in
+    let shown = ap length c.deref_mut.ensures.value in
+    let all = c.deref.ensures.0 ∙ items-with_items kept ranked (omega arith) in
     record {
-      order = take n ranked;
-      shuffled = subst (λ xs. IsPermutation xs (take n ranked)) c.keep_free-left.ensures.value c.rank_first.ensures.shuffled;
-      rises = c.rank_first.ensures.ordered;
-      first = subst (λ xs. Of xs a.raise a.question a.apart c.report_of.result) (sym (take-take size n ranked fits)) c.report_of.ensures;
+      order = ranked;
+      shuffled = subst (λ xs. IsPermutation xs ranked) (c.deref_mut.ensures.value ∙ c.keep_free.ensures) c.rank_all.ensures.shuffled;
+      rises = c.rank_all.ensures.ordered;
+      first = subst (λ n. Of (take (fifth n) ranked) a.raise a.question a.apart c.report_of.result) c.len.ensures.value (subst (λ xs. Of (take (fifth c.len.result) xs) a.raise a.question a.apart c.report_of.result) all c.report_of.ensures);
     }
