@@ -46,8 +46,8 @@ pub(crate) fn list(
     ensures { entries.new.items ≡ rows_of (slots_of found.now) found.now.width needs.now means.now (length (slots_of found.now)) }
 {
     let width = found.width();
-    for (i, slot) in found.slots().iter().enumerate() {
-        list_slot(entries, slot, width, &needs[i], &means[i]);
+    for ((slot, needs), means) in found.slots().iter().zip(needs).zip(means) {
+        list_slot(entries, slot, width, needs, means);
     }
 }
 
