@@ -8,7 +8,7 @@ ghost use Rattle.selecting.specs.Lists.{entry_at, rows_of, free};
 use crate::{Entry, Place};
 use arrayvec::ArrayVec;
 use choosing::{Candidates, Slot};
-use measuring::MeanRow;
+use measuring::Mean;
 
 // Adds the candidates of one slot.
 fn list_slot(
@@ -16,7 +16,7 @@ fn list_slot(
     slot: &Slot,
     width: u8,
     needs: &[u8; 20],
-    means: &MeanRow,
+    means: &[Option<Mean>; 20],
 )
     requires { (array_vec_len entries.old + width ≤ 2000) × (width ≤ 20) }
     ensures { entries.new.items ≡ entries.old.items ++ map (entry_at slot.now needs.now means.now) (range_with_len 0 width) }
@@ -30,7 +30,7 @@ fn list_slot(
                 channel,
             },
             need: needs[usize::from(channel)],
-            mean: means.means[usize::from(channel)],
+            mean: means[usize::from(channel)],
         });
     }
 }
@@ -40,7 +40,7 @@ pub(crate) fn list(
     entries: &mut ArrayVec<Entry, 2000>,
     found: &Candidates,
     needs: &[[u8; 20]; 100],
-    means: &[MeanRow; 100],
+    means: &[[Option<Mean>; 20]; 100],
 )
     requires { entries.old.items ≡ [] }
     ensures { entries.new.items ≡ rows_of (slots_of found.now) found.now.width needs.now means.now (length (slots_of found.now)) }

@@ -2,7 +2,6 @@ use Rattle.std.proofs.Common.{◌≡◌, ◌+◌, ◌*◌, [], ◌∷◌, ◌++�
 use Rattle.std.specs.List.{range_with_len}
 use Rattle.std.proofs.lemmas.List.{length_push}
 use Rattle.std.proofs.lemmas.List.FromFn.{length-map-range_with_len}
-use Rattle.measuring.specs.Means.{silent}
 use Rattle.choosing.specs.Found.{slots_of}
 use Rattle.choosing.specs.Slots.{origin}
 use Rattle.selecting.specs.Lists.{entry_at, row_of, rows_of}
@@ -27,7 +26,7 @@ loop-slot-preserved c =
       c.list_slot.ensures
           ∙ ap (λ s. before ++ map (entry_at s c.in-Some.needs.now c.in-Some.means.now) (range_with_len 0 width)) (slot.0 origin)
           ∙ ap (λ k. before ++ map (entry_at (get_or slots n origin) k c.in-Some.means.now) (range_with_len 0 width)) (needs.0 [])
-          ∙ ap (λ m. before ++ map (entry_at (get_or slots n origin) (get_or a.needs.now n []) m) (range_with_len 0 width)) (means.0 silent)
+          ∙ ap (λ m. before ++ map (entry_at (get_or slots n origin) (get_or a.needs.now n []) m) (range_with_len 0 width)) (means.0 [])
           ∙ ap (λ xs. xs ++ row_of slots width a.needs.now a.means.now n) v.0
           ∙ sym (rows_more (row_of slots width a.needs.now a.means.now) n)
           ∙ ap (rows_of slots width a.needs.now a.means.now) (sym next),
