@@ -6,7 +6,6 @@ use Rattle.rules.specs.Sensing.{Meaning}
 use Rattle.choosing.specs.Fits.{place_of}
 use Rattle.choosing.specs.declared.Slot.{Slot}
 use Rattle.measuring.specs.declared.Mean.{Mean}
-use Rattle.measuring.specs.declared.MeanRow.{MeanRow}
 use Rattle.measuring.specs.declared.Sum.{Sum}
 use Rattle.measuring.specs.Sums.{column, fraction}
 
@@ -16,17 +15,13 @@ fraction_of None = None
 fraction_of (Some a) = Some (record { over = a.over; under = a.under })
 
 -- the means of the sums of a slot
-pub record MeansOf (s : Sum) (row : MeanRow) : Type 0 where
-  pub each : (x : ℕ) → x < 20 → fraction_of (slice_index_or row.means x None) ≡ fraction (column s x) s.under
-
--- a row without means
-abbrev pub silent : MeanRow
-silent = record { means = [] }
+pub record MeansOf (s : Sum) (row : List (Option Mean)) : Type 0 where
+  pub each : (x : ℕ) → x < 20 → fraction_of (slice_index_or row x None) ≡ fraction (column s x) s.under
 
 -- the mean at a row and a column
-abbrev pub at : List MeanRow → ℕ → ℕ → Option Mean
-at rows i x = slice_index_or (get_or rows i silent).means x None
+abbrev pub at : List (List (Option Mean)) → ℕ → ℕ → Option Mean
+at rows i x = slice_index_or (get_or rows i []) x None
 
 -- at each slot and first sub-channel stands the mean of that candidate
-abbrev pub MeansAre : Pool → Meaning → Question → List Slot → List MeanRow → Type 0
+abbrev pub MeansAre : Pool → Meaning → Question → List Slot → List (List (Option Mean)) → Type 0
 MeansAre p m q slots rows = (i x : ℕ) → i < length slots → x < 20 → x + q.length ≤ p.channels → fraction_of (at rows i x) ≡ mean p m q (place_of slots i x)

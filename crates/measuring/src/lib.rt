@@ -17,13 +17,6 @@ pub struct Mean {
     ghost small: { over < 2 ^ 48 },
 }
 
-// The means at one slot, by first sub-channel: a struct of its own, since tried as an array of arrays its rows cannot be borrowed
-// one by one, for their elements have an invariant.
-#[derive(Clone, Copy)]
-pub struct MeanRow {
-    pub means: [Option<Mean>; 20],
-}
-
 // The samples of a slot so far: the slot's index, how many there are, and the sum of their readings for each first sub-channel.
 #[derive(Clone, Copy)]
 pub(crate) struct Sum {

@@ -1,16 +1,16 @@
 // The means of all candidates by one walk over the window, and their order.
-ghost use Rattle.std.specs.Prelude.{◌≡◌, ℕ, ◌+◌, ◌<◌, ◌≤◌, length, None, slice_index_or};
+ghost use Rattle.std.specs.Prelude.{◌≡◌, ℕ, ◌+◌, ◌<◌, ◌≤◌, List, [], length, slice_index_or};
 ghost use Rattle.pool.specs.Pools.{meaning as pool_meaning};
 ghost use Rattle.rules.specs.Choose.{lower as lower_mean, sample_step};
 ghost use Rattle.rules.specs.Sensing.{Inside};
 ghost use Rattle.choosing.specs.Asked.{question_of};
 ghost use Rattle.choosing.specs.Found.{slots_of};
 ghost use Rattle.choosing.specs.Fits.{Fit};
-ghost use Rattle.measuring.specs.Means.{fraction_of, silent, MeansOf, MeansAre};
+ghost use Rattle.measuring.specs.Means.{fraction_of, MeansOf, MeansAre};
 ghost use Rattle.measuring.specs.Sums.{Heard, AllAdded, AllUpTo, column, fraction};
 
 use crate::sums::{add_all, none_yet};
-use crate::{Mean, MeanRow, Powers, Sum};
+use crate::{Mean, Powers, Sum};
 use choosing::{Candidates, Question};
 use pool::Pool;
 use sensing::Asking;
@@ -80,23 +80,32 @@ impl Sum {
         })
     }
 
-    fn means(&self) -> MeanRow
+    // The means by first sub-channel.
+    fn means(&self) -> [Option<Mean>; 20]
         ensures { MeansOf self.now result }
     {
-        MeanRow {
-            means: array::from_fn(|x| self.mean(x)),
-        }
+        array::from_fn(|x| self.mean(x))
     }
 }
 
-fn rows(sums: [Sum; 100]) -> [MeanRow; 100]
-    ensures { (i : ℕ) → i < 100 → (d : _) → MeansOf (slice_index_or sums i d) (slice_index_or result i silent) }
+// The means of each slot.
+fn rows(sums: [Sum; 100]) -> [[Option<Mean>; 20]; 100]
+    ensures { (i : ℕ) → i < 100 → (d : _) → MeansOf (slice_index_or sums i d) (slice_index_or result i []) }
 {
-    sums.map(|sum| sum.means())
+    sums.map(
+        |sum|
+            ensures { MeansOf sum result }
+        { sum.means() },
+    )
 }
 
 // For each slot and first sub-channel the mean of that candidate. It speaks of memories that fit the pool.
-pub fn means<M: Asking>(pool: &Pool, m: &M, q: &Question, c: &Candidates) -> [MeanRow; 100]
+pub fn means<M: Asking>(
+    pool: &Pool,
+    m: &M,
+    q: &Question,
+    c: &Candidates,
+) -> [[Option<Mean>; 20]; 100]
     ensures { Fit (pool_meaning pool.now) (M.meaning m.now) → MeansAre (pool_meaning pool.now) (M.meaning m.now) (question_of q.now) (slots_of c.now) result }
 {
     let slots = c.slots();

@@ -8,6 +8,7 @@ use crate::{Powers, Sum};
 use choosing::Slot;
 use std::array;
 
+// The sum of at most 20 readings, which a function of its own can bound.
 fn sum_of(readings: &[u32]) -> u64
     requires { length readings.now ≤ 20 }
     ensures value { result ≡ sum_by (λ r. r) readings.now }
@@ -29,6 +30,7 @@ fn power(readings: &[u32; 20], n: usize, x: usize) -> u64
 }
 
 impl Powers {
+    // The sums of the readings of n sub-channels each.
     pub(crate) fn new(readings: &[u32; 20], n: usize) -> Powers
         requires { n ≤ 255 }
         ensures { (x : ℕ) → x < 20 → x + n ≤ 20 → slice_index result.from x ≡ total readings.now n x }

@@ -1,5 +1,5 @@
 -- A selection from what was found, needed and heard. Assumes nothing.
-use Rattle.std.proofs.Common.{◌≡◌, ℕ, ◌<◌, ◌≤◌, true, ◌&&◌, ltb, leb, List, length, Ok, Err, Result, refl, inl, arith}
+use Rattle.std.proofs.Common.{Option, ◌≡◌, ℕ, ◌<◌, ◌≤◌, true, ◌&&◌, ltb, leb, List, length, Ok, Err, Result, refl, inl, arith}
 use Rattle.std.proofs.lemmas.Bool.{and_parts, leb-true, ltb-true}
 use Rattle.answer.specs.Numbers.{number}
 use Rattle.answer.specs.declared.Refusal.{Refusal}
@@ -18,7 +18,7 @@ use Rattle.choosing.specs.Found.{slots_of, Listed}
 use Rattle.choosing.specs.declared.Candidates.{Candidates}
 use Rattle.choosing.specs.declared.Question.{Question as Asked}
 use Rattle.measuring.specs.Means.{MeansAre}
-use Rattle.measuring.specs.declared.MeanRow.{MeanRow}
+use Rattle.measuring.specs.declared.Mean.{Mean}
 use Rattle.reserving.specs.Needs.{NeedsAre}
 use Rattle.reserving.specs.declared.Need.{Need}
 use Rattle.selecting.specs.Chosen.{Selected, Chosen}
@@ -47,7 +47,7 @@ passed p now q e =
 pub stopped : (p : Pool) (now : ℕ) (m : Meaning) (q : Question) (e : Refusal) → first_no (choose_questions p now q) ≡ number e → Chosen p now m q (Err e)
 stopped p now m q e is = inl (is, λ z. let n = number_some e in omega arith)
 
-module _ (p : Pool) (now : ℕ) (m : Meaning) (good : within p ≡ true) (sound : Sound m) (fit : Fit p m) (asked : Asked) (c : Candidates) (found : Listed p now (question_of asked) c) (needs : List (List Need)) (means : List MeanRow) (apart : ℕ) (far : apart ≡ interval p (question_of asked)) (needed : NeedsAre p m (question_of asked) (slots_of c) needs) (heard : MeansAre p m (question_of asked) (slots_of c) means) where
+module _ (p : Pool) (now : ℕ) (m : Meaning) (good : within p ≡ true) (sound : Sound m) (fit : Fit p m) (asked : Asked) (c : Candidates) (found : Listed p now (question_of asked) c) (needs : List (List Need)) (means : List (List (Option Mean))) (apart : ℕ) (far : apart ≡ interval p (question_of asked)) (needed : NeedsAre p m (question_of asked) (slots_of c) needs) (heard : MeansAre p m (question_of asked) (slots_of c) means) where
   pub chosen : (r : Result Report Refusal) → Selected (rows_of (slots_of c) c.width needs means (length (slots_of c))) asked apart r → Chosen p now m (question_of asked) r
   chosen (Ok r) w =
       let q = question_of asked in

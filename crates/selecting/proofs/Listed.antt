@@ -1,5 +1,5 @@
 -- The rows of all slots are the candidates, and what each says of its candidate. Assumes nothing.
-use Rattle.std.proofs.Common.{◌≡◌, ℕ, zero, suc, ◌+◌, ◌-◌, ◌<◌, ◌≤◌, Bool, true, false, cond, ◌&&◌, List, [], ◌∷◌, ◌++◌, map, length, get_or, filter, sym, refl, ap, ◌∙◌, subst, ⊎_elim, arith}
+use Rattle.std.proofs.Common.{Option, ◌≡◌, ℕ, zero, suc, ◌+◌, ◌-◌, ◌<◌, ◌≤◌, Bool, true, false, cond, ◌&&◌, List, [], ◌∷◌, ◌++◌, map, length, get_or, filter, sym, refl, ap, ◌∙◌, subst, ⊎_elim, arith}
 use mathlib.Core.List.{map-map}
 use Rattle.std.specs.List.{range_with_len, flat_map, AllByRecursion}
 use Rattle.std.proofs.lemmas.List.FromFn.{fill_by_all}
@@ -12,8 +12,8 @@ use Rattle.rules.specs.Choose.{Question, Place as Meant, across, joined_all, sub
 use Rattle.rules.specs.Sensing.{Meaning}
 use Rattle.choosing.specs.Slots.{origin, slot_at}
 use Rattle.choosing.specs.declared.Slot.{Slot}
-use Rattle.measuring.specs.Means.{MeansAre, silent}
-use Rattle.measuring.specs.declared.MeanRow.{MeanRow}
+use Rattle.measuring.specs.Means.{MeansAre}
+use Rattle.measuring.specs.declared.Mean.{Mean}
 use Rattle.reserving.specs.Needs.{NeedsAre}
 use Rattle.reserving.specs.declared.Need.{Need}
 use Rattle.selecting.specs.Chosen.{SetSubframe}
@@ -38,12 +38,12 @@ joined_places h d xs =
 abbrev places : ℕ → ℕ → List Meant
 places width y = map (λ x. record { channel = x; at = y }) (range_with_len 0 width)
 
-module _ (p : Pool) (now : ℕ) (q : Question) (slots : List Slot) (width : ℕ) (needs : List (List Need)) (means : List MeanRow) (are : slots ≡ map (slot_at p) (subframes p now q)) (wide : width ≡ p.channels + 1 - q.length) where
+module _ (p : Pool) (now : ℕ) (q : Question) (slots : List Slot) (width : ℕ) (needs : List (List Need)) (means : List (List (Option Mean))) (are : slots ≡ map (slot_at p) (subframes p now q)) (wide : width ≡ p.channels + 1 - q.length) where
   pub rows_are : map candidate_of (rows_of slots width needs means (length slots)) ≡ candidates p now q
   unfolding candidates
   rows_are =
       map_joined candidate_of (row_of slots width needs means) (λ i. places width (get_or slots i origin).index) (range_with_len 0 (length slots))
-      (λ i. map-map candidate_of (entry_at (get_or slots i origin) (get_or needs i []) (get_or means i silent)) (range_with_len 0 width))
+      (λ i. map-map candidate_of (entry_at (get_or slots i origin) (get_or needs i []) (get_or means i [])) (range_with_len 0 width))
       ∙ joined_places (λ (s : Slot). places width s.index) origin slots
       ∙ ap (λ w. flat_map (λ (s : Slot). places w s.index) slots) wide
       ∙ ap (flat_map (λ (s : Slot). across p q s.index)) are
@@ -60,17 +60,17 @@ all_joined P g [] a = tt
 all_joined P g (x ∷ xs) a = All-append P (g x) (flat_map g xs) a.0 (all_joined P g xs a.1)
 
 -- what holds of each entry by its slot and its first sub-channel
-all_rows : (P : Entry → Type 0) (slots : List Slot) (width : ℕ) (needs : List (List Need)) (means : List MeanRow) → ((i x : ℕ) → i < length slots → x < width → P (entry_at (get_or slots i origin) (get_or needs i []) (get_or means i silent) x)) → AllByRecursion P (rows_of slots width needs means (length slots))
+all_rows : (P : Entry → Type 0) (slots : List Slot) (width : ℕ) (needs : List (List Need)) (means : List (List (Option Mean))) → ((i x : ℕ) → i < length slots → x < width → P (entry_at (get_or slots i origin) (get_or needs i []) (get_or means i []) x)) → AllByRecursion P (rows_of slots width needs means (length slots))
 all_rows P slots width needs means h =
     all_joined P (row_of slots width needs means) (range_with_len 0 (length slots))
     (all_counted (λ i. AllByRecursion P (row_of slots width needs means i)) 0 (length slots)
     (λ i _ high.
     let few : i < length slots = omega arith in
-    All-map P (entry_at (get_or slots i origin) (get_or needs i []) (get_or means i silent)) (range_with_len 0 width)
-    (all_counted (λ x. P (entry_at (get_or slots i origin) (get_or needs i []) (get_or means i silent) x)) 0 width
+    All-map P (entry_at (get_or slots i origin) (get_or needs i []) (get_or means i [])) (range_with_len 0 width)
+    (all_counted (λ x. P (entry_at (get_or slots i origin) (get_or needs i []) (get_or means i []) x)) 0 width
     (λ x _ top. h i x few (omega arith)))))
 
-module _ (p : Pool) (now : ℕ) (m : Meaning) (q : Question) (slots : List Slot) (width : ℕ) (needs : List (List Need)) (means : List MeanRow) where
+module _ (p : Pool) (now : ℕ) (m : Meaning) (q : Question) (slots : List Slot) (width : ℕ) (needs : List (List Need)) (means : List (List (Option Mean))) where
   pub rows_told : width ≡ p.channels + 1 - q.length → q.length ≤ p.channels → 1 ≤ q.length → p.channels ≤ 20 → NeedsAre p m q slots needs → MeansAre p m q slots means → AllByRecursion (Told p now m q) (rows_of slots width needs means (length slots))
   rows_told wide short some few n a =
       all_rows (Told p now m q) slots width needs means
@@ -85,7 +85,7 @@ kept_true f (x ∷ xs) =
     (λ (t : f x ≡ false). subst (λ b. AllByRecursion (λ s. f s ≡ true) (cond b (x ∷ filter f xs) (filter f xs))) (sym t) (kept_true f xs))
     (cases_Bool (f x))
 
-pub rows_set : (p : Pool) (now : ℕ) (q : Question) (slots : List Slot) (width : ℕ) (needs : List (List Need)) (means : List MeanRow) → slots ≡ map (slot_at p) (subframes p now q) → AllByRecursion (λ e. SetSubframe p (reported e)) (rows_of slots width needs means (length slots))
+pub rows_set : (p : Pool) (now : ℕ) (q : Question) (slots : List Slot) (width : ℕ) (needs : List (List Need)) (means : List (List (Option Mean))) → slots ≡ map (slot_at p) (subframes p now q) → AllByRecursion (λ e. SetSubframe p (reported e)) (rows_of slots width needs means (length slots))
 rows_set p now q slots width needs means are =
     let Right : Slot → Type 0 = λ s. (in_set p s.subframe ≡ true) × (index p s.subframe ≡ s.index) in
     let wanted : ℕ → Bool = λ s. in_set p s && in_pool p (index p s) in

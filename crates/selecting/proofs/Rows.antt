@@ -1,7 +1,7 @@
 -- The entries of all slots, one slot more. Assumes nothing.
-use Rattle.std.proofs.Common.{◌≡◌, ℕ, ◌+◌, List, [], ◌∷◌, ◌++◌, sym, ap, ◌∙◌, arith}
+use Rattle.std.proofs.Common.{◌≡◌, ℕ, ◌+◌, List, [], ◌∷◌, ◌++◌, get_or, drop, sym, ap, ◌∙◌, add-zero, arith}
 use Rattle.std.specs.List.{range_with_len, flat_map}
-use Rattle.std.proofs.lemmas.List.{flat_map_more, map-id}
+use Rattle.std.proofs.lemmas.List.{drop-drop, flat_map_more, get_or-drop, map-id}
 use Rattle.std.proofs.lemmas.List.FromFn.{map-range_with_len_more}
 
 -- numbers counted from 0, and one more
@@ -11,3 +11,12 @@ counting_more n =
 
 pub rows_more : {X : Type 0} (f : ℕ → List X) (n : ℕ) → flat_map f (range_with_len 0 (n + 1)) ≡ flat_map f (range_with_len 0 n) ++ f n
 rows_more f n = ap (flat_map f) (counting_more n) ∙ sym (flat_map_more f [] (range_with_len 0 n) n)
+
+-- the next element of what is left of a list, and what is left behind it
+pub turn : {A : Type 0} (xs rest left : List A) (x : A) (n : ℕ) → left ≡ drop n xs → left ≡ x ∷ rest → ((d : A) → x ≡ get_or xs n d) × (rest ≡ drop (n + 1) xs)
+turn xs rest left x n e h =
+    let z = add-zero n in
+    let same : drop n xs ≡ x ∷ rest = sym e ∙ h in (
+      (λ d. sym (ap (λ ys. get_or ys 0 d) same) ∙ get_or-drop n xs 0 d ∙ ap (λ k. get_or xs k d) z),
+      sym (ap (drop 1) same) ∙ drop-drop 1 n xs,
+    )

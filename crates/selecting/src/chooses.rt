@@ -15,7 +15,7 @@ use answer::Refusal;
 use arrayvec::ArrayVec;
 use choosing::finds::candidates;
 use choosing::{Candidates, Question};
-use measuring::MeanRow;
+use measuring::Mean;
 use measuring::means::means;
 use pool::Pool;
 use reserving::{Need, needs};
@@ -25,7 +25,7 @@ use sensing::Asking;
 fn select(
     found: &Candidates,
     needs: &[[Need; 20]; 100],
-    means: &[MeanRow; 100],
+    means: &[[Option<Mean>; 20]; 100],
     q: &Question,
     apart: u32,
     raise: &mut Raise,

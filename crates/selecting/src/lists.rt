@@ -8,7 +8,7 @@ ghost use Rattle.selecting.specs.Lists.{entry_at, rows_of, free};
 use crate::{Entry, Place};
 use arrayvec::ArrayVec;
 use choosing::{Candidates, Slot};
-use measuring::MeanRow;
+use measuring::Mean;
 use reserving::Need;
 
 // Adds the candidates of one slot.
@@ -17,7 +17,7 @@ fn list_slot(
     slot: &Slot,
     width: u8,
     needs: &[Need; 20],
-    means: &MeanRow,
+    means: &[Option<Mean>; 20],
 )
     requires { (array_vec_len entries.old + width ≤ 2000) × (width ≤ 20) }
     ensures { entries.new.items ≡ entries.old.items ++ map (entry_at slot.now needs.now means.now) (range_with_len 0 width) }
@@ -31,7 +31,7 @@ fn list_slot(
                 channel,
             },
             need: needs[usize::from(channel)],
-            mean: means.means[usize::from(channel)],
+            mean: means[usize::from(channel)],
         });
     }
 }
@@ -41,14 +41,14 @@ pub(crate) fn list(
     entries: &mut ArrayVec<Entry, 2000>,
     found: &Candidates,
     needs: &[[Need; 20]; 100],
-    means: &[MeanRow; 100],
+    means: &[[Option<Mean>; 20]; 100],
 )
     requires { entries.old.items ≡ [] }
     ensures { entries.new.items ≡ rows_of (slots_of found.now) found.now.width needs.now means.now (length (slots_of found.now)) }
 {
     let width = found.width();
-    for (i, slot) in found.slots().iter().enumerate() {
-        list_slot(entries, slot, width, &needs[i], &means[i]);
+    for ((slot, needs), means) in found.slots().iter().zip(needs).zip(means) {
+        list_slot(entries, slot, width, needs, means);
     }
 }
 

@@ -27,6 +27,7 @@ fn places_of(entries: &[Entry]) -> ArrayVec<Place, 400>
     places
 }
 
+// Puts places in order of index and then sub-channel.
 fn sort_places(places: &mut [Place])
     ensures shuffled { IsPermutation places.old places.new }
     ensures ordered { rising sooner places.new ≡ true }

@@ -12,7 +12,7 @@ pub loop-channel-preserved : goal.loop-channel-preserved
 loop-channel-preserved c =
     let a = c.args in
     let x = c.loop-channel.channel in
-    let ms = a.means.now.means in
+    let ms = a.means.now in
     let here : x < length ms = omega arith in
     let put : ℕ → Option Mean → Entry = λ n o. record { place = record { subframe = a.slot.now.subframe; index = a.slot.now.index; channel = x }; need = get_or a.needs.now n (From 0); mean = o } in
     let f = entry_at a.slot.now a.needs.now a.means.now in
