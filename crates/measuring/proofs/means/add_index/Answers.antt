@@ -1,4 +1,4 @@
-use Rattle.std.proofs.Common.{rules, ◌≡◌, ℕ, ◌+◌, ◌<◌, ◌≤◌, get_or, ap, arith}
+use Rattle.std.proofs.Common.{◌≡◌, ℕ, ◌+◌, ◌<◌, ◌≤◌, get_or, ap, arith}
 use Rattle.rules.specs.Choose.{readings_in, power}
 use Rattle.choosing.specs.Asked.{question_of}
 use Rattle.measuring.specs.Sums.{total}

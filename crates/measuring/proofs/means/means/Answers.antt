@@ -1,11 +1,10 @@
-use Rattle.std.proofs.Common.{rules, ◌≡◌, ℕ, ◌+◌, ◌-◌, ◌<◌, ◌≤◌, List, ◌++◌, length, drop, get_or, ap, ◌∙◌, sym, subst, arith}
+use Rattle.std.proofs.Common.{◌≡◌, ℕ, ◌+◌, ◌-◌, ◌++◌, length, drop, get_or, ap, ◌∙◌, sym, subst, arith}
 use Rattle.std.proofs.Math.ListN.{get_or-append}
 use Rattle.pool.specs.Pools.{meaning}
 use Rattle.rules.specs.Calendar.{window}
-use Rattle.rules.specs.Choose.{mean}
 use Rattle.choosing.specs.Asked.{question_of}
 use Rattle.choosing.specs.Found.{slots_of}
-use Rattle.choosing.specs.Fits.{index_of, place_of}
+use Rattle.choosing.specs.Fits.{index_of}
 use Rattle.measuring.specs.Sums.{Added, Walked}
 use Rattle.measuring.proofs.Adding.{blank, walked_more, walked_mean}
 use Rattle.measuring.proofs.means.means.Goals as goal

@@ -1,4 +1,4 @@
-use Rattle.std.proofs.Common.{rules, ◌≡◌, ℕ}
+use Rattle.std.proofs.Common.{rules}
 use Rattle.choosing.specs.Fits.{index_of}
 use Rattle.measuring.specs.Sums.{NoneYet}
 use Rattle.measuring.proofs.Made.{from_each}

@@ -1,5 +1,4 @@
-use Rattle.std.proofs.Common.{rules, ◌≡◌, ℕ, ◌+◌, ◌-◌, ◌*◌, ◌<◌, ◌≤◌, List, length, take, drop, sum_by, ap, ◌∙◌, arith}
-use Rattle.measuring.specs.Sums.{total}
+use Rattle.std.proofs.Common.{rules, ◌≡◌, ◌+◌, ◌-◌, take, drop, sum_by, ap, ◌∙◌, arith}
 use Rattle.measuring.proofs.Adding.{total_of}
 use Rattle.measuring.proofs.sums.power.Goals as goal
 
