@@ -6,3 +6,4 @@ pub mod Listed
 pub mod Answered
 pub mod Asked
 pub mod Joined
+pub mod Fewer

@@ -1,5 +1,5 @@
 -- Candidates as they are ranked, and places as they are reported. Assumes nothing.
-use Rattle.std.specs.Prelude.{Bool, not, ◌&&◌, ◌||◌}
+use Rattle.std.specs.Prelude.{Bool, List, not, ◌&&◌, ◌||◌, ◌≤◌, length, filter}
 use Rattle.rules.specs.Choose.{Place as Meant, lower, earlier}
 use Rattle.measuring.specs.Means.{fraction_of}
 use Rattle.selecting.specs.declared.Entry.{Entry}
@@ -12,6 +12,10 @@ place_of a = record { channel = a.channel; at = a.index }
 -- by index, then sub-channel
 abbrev pub sooner : Place → Place → Bool
 sooner a b = earlier (place_of a) (place_of b)
+
+-- these are some of all, each at most as often: whatever is asked, no more of these meet it
+abbrev pub SomeOf : List Place → List Place → Type 0
+SomeOf these all = (asked : Place → Bool) → length (filter asked these) ≤ length (filter asked all)
 
 -- what stands past the places of a report
 abbrev pub nowhere : Place

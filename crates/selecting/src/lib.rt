@@ -3,7 +3,7 @@
 
 ghost use Rattle.std.specs.Prelude.{◌≡◌, ℕ, ◌≤◌, true};
 ghost use Rattle.rules.specs.Ranks.{rising};
-ghost use Rattle.selecting.specs.Entries.{sooner};
+ghost use Rattle.selecting.specs.Entries.{sooner, SomeOf};
 
 pub mod chooses;
 mod lists;
@@ -50,4 +50,6 @@ pub struct Report {
     apart: u32,
     ghost lifted: { raise ≤ 43 },
     ghost ordered: { rising sooner places.items ≡ true },
+    ghost some: { SomeOf marked.items places.items },
+    ghost rest_ordered: { rising sooner marked.items ≡ true },
 }

@@ -1,11 +1,10 @@
 -- What the questions before a free place answer. Assumes nothing.
-use Rattle.std.proofs.Common.{◌≡◌, ℕ, zero, suc, ◌<◌, Bool, true, false, cond, not, ◌&&◌, eqb, ltb, List, [], ◌∷◌, ◌++◌, length, get_or, ℤ, Some, None, Ok, Err, Option, Result, sym, refl, ap, ◌∙◌, subst, arith}
+use Rattle.std.proofs.Common.{◌≡◌, ℕ, zero, suc, ◌<◌, Bool, true, false, cond, not, eqb, ltb, List, [], ◌∷◌, ◌++◌, length, get_or, ℤ, Some, None, Ok, Err, Option, Result, sym, refl, ap, ◌∙◌, subst, arith}
 use Rattle.std.proofs.lemmas.Bool.{eqb-true, eq-eqb, ne_eqb, lt-ltb, ltb-true, and_from, and_parts, and_left, and_right}
 use Rattle.answer.specs.declared.Refusal.{Refusal}
 use Rattle.answer.specs.Numbers.{number}
 use Rattle.answer.proofs.Some.{number_some}
-use Rattle.std.specs.List.{list_all}
-use Rattle.rules.specs.Counting.{every, first_no}
+use Rattle.rules.specs.Counting.{first_no}
 use Rattle.rules.specs.Format.{Record as Fields, joined, record_of, reading, questions}
 use Rattle.rules.specs.Sensing.{Meaning, Inside, inside, asked_record, rsrp_ok, Fair, heard_as, heard_questions, record_questions, sent?, free_for, same_held, same_list, resource_questions, asked_mark, asked_reading, reading_in, Cell, blank, listened, sent, mark, is_listened, listened?, quiet_for, readings_ok, readings_questions, Sound}
 use Rattle.rules.proofs.Answers.{stops, passes, answer_ok, inside_from, from_inside}
@@ -93,11 +92,6 @@ pub out_first : (m : Meaning) (i : ℕ) (e : Refusal) (qs : List (Bool × ℕ)) 
 out_first m i e qs said =
     let u = unstated m i (number e) said in
     ap (λ b. cond b (first_no qs) 23) u.0 ∙ sym u.1
-
--- a test of each element, as a chain computes it
-pub every_is_all : {X : Type 0} (p : X → Bool) (xs : List X) → list_all p xs ≡ every p xs
-every_is_all p [] = refl
-every_is_all p (x ∷ xs) = ap (λ b. p x && b) (every_is_all p xs)
 
 -- lists that are compared element by element
 pub same_lists : (xs ys : List ℕ) → length xs ≡ length ys → ((k : ℕ) → k < length ys → get_or xs k 0 ≡ get_or ys k 0) → same_list xs ys ≡ true
