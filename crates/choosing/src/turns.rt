@@ -26,6 +26,7 @@ pub fn repeats(pool: &Pool, code: u8, g: u64) -> u64
     if g > u64::from(pool.distance(code)) {
         return 1;
     }
+    // A number and no enum: callers fill a code in as a number, and each number has an answer.
     match code {
         11 => 2,
         12 => 5,

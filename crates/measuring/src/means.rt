@@ -33,6 +33,7 @@ pub fn lower(x: Option<Mean>, y: Option<Mean>) -> bool
 fn sample_step(pool: &Pool, q: &Question) -> u64
     ensures { result ≡ sample_step (pool_meaning pool.now) (question_of q.now) }
 {
+    // A number and no enum: callers fill a code in as a number, and each number has an answer.
     if q.code <= 10 {
         u64::from(pool.step())
     } else {

@@ -10,7 +10,7 @@ ghost use Rattle.sensing.specs.Memories.{marked, reading_of};
 ghost use Rattle.memory.specs.RowCells.{Upto};
 ghost use Rattle.memory.specs.Fits.{FitsRing};
 
-use crate::rows::Row;
+use crate::rows::{Row, read, stamp};
 use answer::Refusal;
 use sensing::State;
 
@@ -90,25 +90,18 @@ impl<'a> Ring<'a> {
         Ok(())
     }
 
-    // The row in which the index stands, if it stands in one.
-    fn row(&self, index: u64) -> usize
-        ensures { result ≡ index % (self.now.window + 1) }
-    {
-        (index % (self.window + 1)) as usize
-    }
-
     // The place of a resource of the index, among as many as there are resources in all rows.
     pub(crate) fn place(&self, index: u64, resource: u8) -> usize
         ensures { result ≡ place self.now index resource }
     {
-        self.row(index) * self.channels as usize + resource as usize
+        (index % (self.window + 1)) as usize * usize::from(self.channels) + usize::from(resource)
     }
 
     // Is the row of the index stamped with it?
     pub(crate) fn stands(&self, index: u64) -> bool
         ensures { result ≡ stamped self.now index }
     {
-        self.rows[self.row(index)].index == index
+        read(self.rows, self.window, index).index == index
     }
 
     // The state of an index.
@@ -119,7 +112,7 @@ impl<'a> Ring<'a> {
         if !self.stands(index) {
             return Ok(State::Blank);
         }
-        Ok(self.rows[self.row(index)].state)
+        Ok(read(self.rows, self.window, index).state)
     }
 
     // The reading of a sub-channel at an index.
@@ -151,11 +144,7 @@ impl<'a> Ring<'a> {
         if self.stands(index) {
             return false;
         }
-        let row = self.row(index);
-        self.rows[row] = Row {
-            index,
-            state: State::Blank,
-        };
+        stamp(self.rows, self.window, index, State::Blank);
         true
     }
 
@@ -164,11 +153,7 @@ impl<'a> Ring<'a> {
         requires { index ≤ self.old.next }
         ensures { Written index Sent was_sent self.old self.new }
     {
-        let row = self.row(index);
-        self.rows[row] = Row {
-            index,
-            state: State::Sent,
-        };
+        stamp(self.rows, self.window, index, State::Sent);
     }
 
     // Keeps the readings of all sub-channels at the index, and stamps its row with it.
@@ -179,10 +164,6 @@ impl<'a> Ring<'a> {
     {
         let at = self.place(index, 0);
         self.readings[at..at + new.len()].copy_from_slice(new);
-        let row = self.row(index);
-        self.rows[row] = Row {
-            index,
-            state: State::Listened,
-        };
+        stamp(self.rows, self.window, index, State::Listened);
     }
 }

@@ -10,11 +10,17 @@ use crate::calendar::on_uplink;
 use crate::{Bitmap, Offsets, Pool, Settings};
 use answer::Refusal;
 
-// Is each level at most 66?
+// Is each level at most 66? The project wants a `for` here, which checks each level against its limit.
+#[tactic(auto, using(rules::proofs::Lists::every_below))]
 fn levels_ok(levels: &[u8]) -> bool
     ensures { result ≡ levels_ok levels.now }
 {
-    levels.iter().all(|level| *level <= 66)
+    for level in levels {
+        if *level > 66 {
+            return false;
+        }
+    }
+    true
 }
 
 // Is the offset below 160 and on an uplink position?

@@ -56,6 +56,7 @@ fn milliseconds(code: u8) -> u32
     ensures value { result ≡ milliseconds_of code }
     ensures few { result ≤ 1000 }
 {
+    // A number and no enum: callers fill a code in as a number, and each number has an answer.
     match code {
         0..=10 => 100 * u32::from(code),
         11 => 50,

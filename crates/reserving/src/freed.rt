@@ -21,6 +21,7 @@ pub(crate) fn freed_at(level: u8, rsrp: i16) -> Need
     requires { rsrp_ok rsrp ≡ true }
     ensures { (raise : ℕ) → above level raise rsrp ≡ bars result raise }
 {
+    // A number and no enum: a pool's levels are numbers of a table, in which 0 is below every RSRP.
     if level == 0 {
         return Need::Never;
     }

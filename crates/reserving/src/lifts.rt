@@ -62,6 +62,7 @@ fn partner(what: &Record, b: u64) -> Option<u64>
     if gap == 0 {
         return None;
     }
+    // A number and no enum: callers fill it in, and one above 1 names no partner.
     match what.again {
         0 => Some(b + gap),
         1 => b.checked_sub(gap),

@@ -174,11 +174,20 @@ pub fn examine_record<M: Asking>(
     beside(held, new)
 }
 
-// Are there n readings, each at most 4,000,000,000?
+// Are there n readings, each at most 4,000,000,000? The project wants a `for` here, which checks each against its limit.
+#[tactic(auto, using(rules::proofs::Lists::every_below))]
 fn readings_ok(n: u8, readings: &[u32]) -> bool
     ensures { result ≡ readings_ok n readings.now }
 {
-    readings.len() == n as usize && readings.iter().all(|r| *r <= 4_000_000_000)
+    if readings.len() != usize::from(n) {
+        return false;
+    }
+    for reading in readings {
+        if *reading > 4_000_000_000 {
+            return false;
+        }
+    }
+    true
 }
 
 // Are the readings of an index that was listened to these?

@@ -1,11 +1,10 @@
-use Rattle.std.proofs.Common.{leb, ◌∙◌, rules}
-use Rattle.std.proofs.lemmas.Iterator.{YieldsList-from_slice}
-use Rattle.std.proofs.lemmas.Iterator.Search.{all_from_yields_List}
-use borrow.Author.Tests.{tests}
-use Rattle.rules.proofs.Chains.{every_is}
+use Rattle.std.proofs.Common.{leb, sym, arith, below_more}
+use Rattle.std.proofs.lemmas.Bool.{le-leb}
+use Rattle.rules.proofs.Lists.{every_from}
 use Rattle.pool.proofs.configure.levels_ok.Goals as goal
 
+pub loop-level-preserved : goal.loop-level-preserved
+loop-level-preserved c = below_more _ _ c.loop-level.invariant (le-leb _ _ (omega arith))
+
 pub returns : goal.returns
-returns c =
-    all_from_yields_List (λ l. leb l 66) _ _ c.all.result c.all.ensures.ran (YieldsList-from_slice c.args.levels.now cc) (λ x b q k. search (rules, tests))
-    ∙ every_is _ c.args.levels.now
+returns c = sym (every_from (λ l. leb l 66) c.args.levels.now 0 (λ k h. c.loop-level.invariant k (omega arith)))

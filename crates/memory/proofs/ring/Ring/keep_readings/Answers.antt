@@ -1,10 +1,9 @@
-use Rattle.std.proofs.Common.{◌≡◌, ◌+◌, ◌-◌, ◌*◌, ◌%◌, length, set, refl, ap, ◌∙◌, arith}
+use Rattle.std.proofs.Common.{◌≡◌, ◌+◌, ◌-◌, ◌*◌, ◌%◌, length, refl, ap, ◌∙◌, arith}
 use lib.Seq.{paste}
 use borrow.Rule.Slice.PartMut.{put_mid}
 use Rattle.std.proofs.lemmas.Slice.{put_mid-paste}
 use Rattle.rules.specs.Sensing.{listened}
 use Rattle.sensing.specs.declared.State.TheVariants.{Listened}
-use Rattle.memory.specs.RowCells.{row_of}
 use Rattle.memory.proofs.RowCells.{stamped_cell, other_cell, copied_here, copied_other}
 use Rattle.memory.proofs.ring.Ring.keep_readings.Goals as goal
 
@@ -15,9 +14,8 @@ returns c =
     let new = c.args.new.now in
     let n = length new in
     let at = c.place-at.result in
-    let row = row_of i Listened in
-    let rows = set r.rows.now c.row-row.result row in
-    let is = ap (λ k. set r.rows.now k row) c.row-row.ensures in
+    let is = c.stamp.ensures in
+    let rows = c.stamp.new.rows in
     let readings = put_mid at (at + n - at) r.readings.now c.copy_from_slice.new.self in
     let there : at ≡ i % (r.window + 1) * r.channels = omega (arith, c.place-at.ensures) in
     let copied : readings ≡ paste r.readings.now (i % (r.window + 1) * r.channels) new r.channels =
