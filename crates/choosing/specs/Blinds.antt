@@ -17,8 +17,8 @@ abbrev pub turn_after : Pool → Question → ℕ → ℕ → ℕ → ℕ → Bo
 turn_after p q z d k y = turn y (interval p q) q.turns (z + k * d)
 
 -- a turn by a code, if it is allowed, from z, which lies g before the next index
-abbrev pub by_code : Pool → Question → ℕ → ℕ → ℕ → ℕ → Bool
-by_code p q z g code y = allowed p code && any (λ k. turn_after p q z (distance p code) k y) (range_with_len 1 (repeats p code g))
+abbrev pub by_one : Pool → Question → ℕ → ℕ → ℕ → ℕ → Bool
+by_one p q z g code y = allowed p code && any (λ k. turn_after p q z (distance p code) k y) (range_with_len 1 (repeats p code g))
 
 -- the flags of the slots say which are blinded
 abbrev pub BlindedAre : Pool → Meaning → Question → List Slot → List Bool → Type 0

@@ -6,7 +6,7 @@ ghost use Rattle.rules.specs.Calendar.{window};
 ghost use Rattle.rules.specs.Sensing.{Inside};
 ghost use Rattle.rules.specs.Choose.{interval, turn, blinds};
 ghost use Rattle.choosing.specs.Asked.{question_of};
-ghost use Rattle.choosing.specs.Blinds.{Marked, by_code, BlindedAre};
+ghost use Rattle.choosing.specs.Blinds.{Marked, by_one, BlindedAre};
 ghost use Rattle.choosing.specs.Found.{slots_of};
 ghost use Rattle.choosing.specs.Searches.{pool_of, asked, slots};
 
@@ -29,7 +29,7 @@ impl Search<'_> {
     // Marks the subframes that have a turn by the code, if it is allowed, from an index z that lies g before the next one.
     fn mark_code(&self, flags: &mut [bool; 100], z: u64, g: u64, code: u8)
         requires { z ≤ 2 ^ 63 }
-        ensures { Marked (slots self.now) (by_code (pool_of self.now) (asked self.now) z g code) flags.old flags.new }
+        ensures { Marked (slots self.now) (by_one (pool_of self.now) (asked self.now) z g code) flags.old flags.new }
     {
         if !self.pool.allows(code) {
             return;

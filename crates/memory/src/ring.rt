@@ -37,7 +37,7 @@ pub(crate) fn fits(channels: u8, window: u64, rows: &[Row], readings: &[u32]) ->
         return Err(Refusal::Lent);
     }
     let rows_wanted = window as usize + 1;
-    if rows.len() < rows_wanted || readings.len() < rows_wanted * channels as usize {
+    if rows.len() < rows_wanted || readings.len() < rows_wanted * usize::from(channels) {
         return Err(Refusal::Lent);
     }
     Ok(())
@@ -56,10 +56,7 @@ impl<'a> Ring<'a> {
         requires { FitsRing channels window (length rows.old) (length readings.old) }
         ensures { New channels window 0 (alone result) }
     {
-        rows.fill(Row {
-            index: 0,
-            state: State::Blank,
-        });
+        rows.fill(Row::default());
         Ring {
             rows,
             readings,
@@ -134,8 +131,8 @@ impl<'a> Ring<'a> {
         self.next = n;
     }
 
-    // Makes the row of the index blank and stamps it, unless it is stamped already. No cell changes by that. True says
-    // that the row was another index's.
+    // Makes the row of the index blank and stamps it, unless it is stamped already. No cell changes by that. Was the row
+    // another index's? Each call has an index of its own, so that it is not past the next one is asked here and not of a type.
     pub(crate) fn claim(&mut self, index: u64) -> bool
         requires { index ≤ self.old.next }
         ensures other { result ≡ not (stamped self.old index) }

@@ -5,7 +5,7 @@ ghost use Rattle.memory.specs.RowCells.{row_at, row_of};
 
 use sensing::State;
 
-#[derive(Clone, Copy)]
+#[derive(Clone, Copy, Default)]
 pub struct Row {
     // the index that the row is for
     pub index: u64,

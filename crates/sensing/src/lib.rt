@@ -11,8 +11,9 @@ use answer::Refusal;
 use format1::{Record, read};
 
 // What is held for an index.
-#[derive(Clone, Copy, PartialEq, Eq, Debug)]
+#[derive(Clone, Copy, PartialEq, Eq, Debug, Default)]
 pub enum State {
+    #[default]
     Blank,
     Listened,
     Sent,
@@ -68,6 +69,7 @@ pub trait Asking {
     fn bare_at(&self, index: u64) -> bool
         ensures { result ≡ bare (meaning self.now) index }
     {
+        // A `for`, since no proof was found of `all` over a question that a memory answers.
         for resource in 0..self.channels() {
             let Ok(held) = self.record(index, resource) else {
                 return false;

@@ -20,7 +20,7 @@ fn claim(ring: &mut Ring, places: &mut [Option<Held>], index: u64)
 {
     if ring.claim(index) {
         let at = ring.place(index, 0);
-        places[at..at + ring.channels as usize].fill(None);
+        places[at..at + usize::from(ring.channels)].fill(None);
     }
 }
 

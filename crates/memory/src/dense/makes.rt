@@ -24,7 +24,7 @@ pub fn fits(
     ensures answer { answered result ≡ (if is_ok result then 0 else 17) }
 {
     ring::fits(channels, window, rows, readings)?;
-    if places.len() < (window as usize + 1) * channels as usize {
+    if places.len() < (window as usize + 1) * usize::from(channels) {
         return Err(Refusal::Lent);
     }
     Ok(())
