@@ -1,5 +1,5 @@
 -- Candidates as they are ranked, and places as they are reported. Assumes nothing.
-use Rattle.std.specs.Prelude.{Bool, List, not, ◌&&◌, ◌||◌, ◌≤◌, length, filter}
+use Rattle.std.specs.Prelude.{◌≡◌, Bool, List, [], ◌∷◌, not, ◌&&◌, ◌||◌, ◌⊎◌}
 use Rattle.rules.specs.Choose.{Place as Meant, lower, earlier}
 use Rattle.measuring.specs.Means.{fraction_of}
 use Rattle.selecting.specs.declared.Entry.{Entry}
@@ -13,9 +13,11 @@ place_of a = record { channel = a.channel; at = a.index }
 abbrev pub sooner : Place → Place → Bool
 sooner a b = earlier (place_of a) (place_of b)
 
--- these are some of all, each at most as often: whatever is asked, no more of these meet it
+-- these are some of all, in their order
 abbrev pub SomeOf : List Place → List Place → Type 0
-SomeOf these all = (asked : Place → Bool) → length (filter asked these) ≤ length (filter asked all)
+SomeOf [] all = Unit {0}
+SomeOf (x ∷ xs) [] = ⊥
+SomeOf (x ∷ xs) (y ∷ ys) = ((x ≡ y) × SomeOf xs ys) ⊎ SomeOf (x ∷ xs) ys
 
 -- what stands past the places of a report
 abbrev pub nowhere : Place

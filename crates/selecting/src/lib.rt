@@ -50,6 +50,5 @@ pub struct Report {
     apart: u32,
     ghost lifted: { raise ≤ 43 },
     ghost ordered: { rising sooner places.items ≡ true },
-    ghost some: { SomeOf marked.items places.items },
-    ghost rest_ordered: { rising sooner marked.items ≡ true },
+    ghost some: { ∥ SomeOf marked.items places.items ∥₁ },
 }

@@ -1,8 +1,8 @@
-use Rattle.std.proofs.Common.{◌≤◌, ◌≡◌, true, ◌<◌, length, filter, refl, ◌∙◌, sym, subst, arith}
+use Rattle.std.proofs.Common.{◌<◌, length, refl, ◌∙◌, sym, subst, arith}
 use Rattle.std.proofs.lemmas.List.{get_or_default}
-use Rattle.rules.specs.Ranks.{rising}
-use Rattle.selecting.specs.Entries.{nowhere, sooner}
-use Rattle.selecting.proofs.Fewer.{rising_fewer, kept_fewer}
+use Rattle.std.proofs.Math.Logic.{∥∥₁_map}
+use Rattle.selecting.specs.Entries.{nowhere, SomeOf}
+use Rattle.selecting.proofs.Fewer.{some_fewer}
 use Rattle.selecting.proofs.Report.unmark.Goals as goal
 
 pub returns : goal.returns
@@ -22,11 +22,10 @@ returns c =
 pub invariant_of-self : goal.invariant_of-self
 invariant_of-self c =
     let r = c.args.self.now in
+    let all = r.places.items in
     let xs = r.marked.items in
-    let fewer = sym c.remove.ensures.items in
     record {
       lifted = r.lifted;
       ordered = r.ordered;
-      some = λ asked. let h = kept_fewer asked xs c.args.i in let g = r.some asked in subst (λ ys. length (filter asked ys) ≤ length (filter asked r.places.items)) fewer (omega arith);
-      rest_ordered = subst (λ ys. rising sooner ys ≡ true) fewer (rising_fewer sooner xs c.args.i r.rest_ordered);
+      some = subst (λ ys. ∥ SomeOf ys all ∥₁) (sym c.remove.ensures.items) (∥∥₁_map r.some (some_fewer xs all c.args.i));
     }

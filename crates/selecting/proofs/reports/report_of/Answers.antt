@@ -1,7 +1,8 @@
-use Rattle.std.proofs.Common.{rules, map, refl, ◌∙◌}
+use Rattle.std.proofs.Common.{rules, map, ◌≡◌, refl, sym, subst, ◌∙◌}
 use Rattle.std.proofs.lemmas.List.{length-map}
 use Rattle.std.proofs.lemmas.List.Sorted.{length_permutation}
-use Rattle.selecting.specs.Entries.{reported}
+use Rattle.selecting.specs.Entries.{reported, SomeOf}
+use Rattle.selecting.proofs.Fewer.{some_all}
 use Rattle.selecting.proofs.reports.report_of.Goals as goal
 
 pub returns : goal.returns
@@ -15,3 +16,9 @@ returns c =
       question_is = refl;
       apart_is = refl;
     }
+
+pub invariant_of-result-clause-some : goal.invariant_of-result-clause-some
+invariant_of-result-clause-some c =
+    let all = c.places_of-places.result.items in
+    let is : c.copy_of.result.items ≡ all = search rules in
+    subst (λ xs. ∥ SomeOf xs all ∥₁) (sym is) ∣ some_all all ∣₁
