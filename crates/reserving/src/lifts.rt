@@ -1,6 +1,6 @@
 // Lifting the needs of candidates that a record reserves.
 ghost use Rattle.std.specs.Prelude.{◌≡◌, ◌+◌, ◌-◌, ◌^◌, ◌<◌, ◌≤◌};
-ghost use Rattle.rules.specs.Choose.{share, partner_of};
+ghost use Rattle.rules.specs.Choose.{share};
 ghost use Rattle.format1.specs.Records.{meant_of};
 ghost use Rattle.choosing.specs.Searches.{pool_of, asked, slots};
 ghost use Rattle.reserving.specs.Lifts.{RowLifted, Lifted, by_share, by_turn, by_base};
@@ -53,23 +53,6 @@ fn lift_turn(rows: &mut [[Need; 20]; 100], search: &Search, t: u64, taken: Span,
     }
 }
 
-// The index of the partner of a record that is based at b, if it has one.
-fn partner(what: &Record, b: u64) -> Option<u64>
-    requires { b < 2 ^ 64 - 2 ^ 8 }
-    ensures { result ≡ partner_of (meant_of what.now) b }
-{
-    let gap = u64::from(what.gap);
-    if gap == 0 {
-        return None;
-    }
-    // A number and no enum: callers fill it in, and one above 1 names no partner.
-    match what.again {
-        0 => Some(b + gap),
-        1 => b.checked_sub(gap),
-        _ => None,
-    }
-}
-
 // Lifts the candidates that a record takes, which was heard at a resource and is based at b.
 pub(crate) fn lift_base(
     rows: &mut [[Need; 20]; 100],
@@ -87,7 +70,7 @@ pub(crate) fn lift_base(
         many: what.length,
     };
     lift_turn(rows, search, b, own, need);
-    let Some(t) = partner(what, b) else {
+    let Some(t) = what.partner(b) else {
         return;
     };
     let other = Span {
