@@ -23,8 +23,8 @@ pub struct Record {
     // how far away the partner is, and 0 where there is none
     pub gap: u8,
     pub mcs: u8,
-    // the retransmission index: 0 says that the partner is after, 1 that it is before;
-    // a number and no enum, since callers fill the fields in, and one above 1 names no partner
+    // the retransmission index: 0 says that the partner is after, 1 that it is before, and a number above 1 names none;
+    // a public field that callers fill in: an enum would take fewer numbers than this promises
     pub again: u8,
 }
 

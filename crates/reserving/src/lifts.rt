@@ -45,7 +45,7 @@ fn lift_row(row: &mut [Need; 20], wide: u8, taken: Span, need: Need)
 fn lift_turn(rows: &mut [[Need; 20]; 100], search: &Search, t: u64, taken: Span, need: Need)
     ensures { Lifted (slots search.now) (by_turn (pool_of search.now) (asked search.now) t taken.first taken.many need) rows.old rows.new }
 {
-    // By place, since a proof knows nothing of the rows after a loop over `rows.iter_mut().zip(..)`.
+    // By place; tried: a loop over `rows.iter_mut().zip(..)`, but a proof knows nothing of the rows after it.
     for (i, slot) in search.slots.iter().enumerate() {
         if search.is_turn(slot.index, t) {
             lift_row(&mut rows[i], search.question.length, taken, need);
