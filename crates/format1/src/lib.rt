@@ -1,11 +1,12 @@
 // The reader of control records, format 1.
 #![tactic(auto)]
 
-ghost use Rattle.std.specs.Prelude.{◌≡◌, ℕ, ◌+◌, ◌*◌, ◌^◌, ◌<◌, ◌≤◌, ◌&&◌, Decides, MatchOption, MatchResult, nat_le, nat_lt};
+ghost use Rattle.std.specs.Prelude.{◌≡◌, ℕ, ◌+◌, ◌-◌, ◌*◌, ◌^◌, ◌<◌, ◌≤◌, ◌&&◌, Decides, MatchOption, MatchResult, nat_le, nat_lt};
 ghost use Rattle.rules.specs.Counting.{first_no};
-ghost use Rattle.rules.specs.Format.{Names, Reads, Uses, pairs, pair, width, bits, questions, reading, partner, uses as uses_test, Numbered, Fitting, LaidOut, Exact, Tested};
+ghost use Rattle.rules.specs.Format.{Names, Reads, Uses, pairs, pair, width, bits, questions, reading, uses as uses_test, Numbered, Fitting, LaidOut, Exact, Tested};
+ghost use Rattle.rules.specs.Choose.{partner_of};
 ghost use Rattle.answer.specs.Numbers.{answered};
-ghost use Rattle.format1.specs.Records.{meant_of, valued, Meant};
+ghost use Rattle.format1.specs.Records.{meant_of, fitting, valued, Meant};
 
 use answer::Refusal;
 
@@ -22,8 +23,8 @@ pub struct Record {
     // how far away the partner is, and 0 where there is none
     pub gap: u8,
     pub mcs: u8,
-    // the retransmission index: 0 says that the partner is after, 1 that it is before;
-    // a number and no enum, since callers fill the fields in, and one above 1 names no partner
+    // the retransmission index: 0 says that the partner is after, 1 that it is before, and a number above 1 names none;
+    // a public field that callers fill in: an enum would take fewer numbers than this promises
     pub again: u8,
 }
 
@@ -132,15 +133,19 @@ fn covers(first: u8, length: u8, channel: u8) -> bool
 }
 
 impl Record {
-    // Is the partner of a record that is based at `base` at the index?
-    fn at_partner(&self, base: u64, index: u64) -> bool
-        ensures { result ≡ partner (meant_of self.now) base index }
+    // The index of the partner of a record that is based at `base`, if it has one.
+    pub fn partner(&self, base: u64) -> Option<u64>
+        ensures value { result ≡ fitting (partner_of (meant_of self.now) base) }
+        ensures early { base < 2 ^ 64 - 2 ^ 8 → result ≡ partner_of (meant_of self.now) base }
     {
         let gap = u64::from(self.gap);
+        if gap == 0 {
+            return None;
+        }
         match self.again {
-            0 => index.checked_sub(base) == Some(gap),
-            1 => base.checked_sub(index) == Some(gap),
-            _ => false,
+            0 => base.checked_add(gap),
+            1 => base.checked_sub(gap),
+            _ => None,
         }
     }
 
@@ -150,9 +155,9 @@ impl Record {
         ensures means { Decides result (Uses (meant_of self.now) resource base channel index) }
     {
         let own = covers(resource, self.length, channel);
-        let at_partner = self.at_partner(base, index);
+        let at_partner = self.partner(base) == Some(index);
         let of_partner = covers(self.start, self.length, channel);
-        (index == base && own) || (self.gap > 0 && at_partner && of_partner)
+        (index == base && own) || (at_partner && of_partner)
     }
 }
 

@@ -59,7 +59,7 @@ impl Offsets {
         let d = u32::from(d);
         self.all()
             .iter()
-            .map(|offset| (d + 159).saturating_sub(u32::from(*offset)) / 160)
+            .map(|offset| d.saturating_sub(u32::from(*offset)).div_ceil(160))
             .sum()
     }
 }
@@ -150,8 +150,7 @@ impl Pool {
         requires { k ≤ 10241 }
         ensures { result ≡ reserved_before (remaining (meaning self.now)) (left_over (meaning self.now)) k }
     {
-        let all = self.remaining();
-        (k * self.left_over() + all - 1) / all
+        (k * self.left_over()).div_ceil(self.remaining())
     }
 
     // How many set subframes lie before place d.

@@ -28,7 +28,7 @@ pub struct Settings {
 }
 
 // The sync offsets of a pool: three places, and how many of them are used.
-// The array has a length beside it, as has the bitmap's, since a pool is `Copy` and the kit's `ArrayVec` is not.
+// The array has a length beside it, since a pool promises `Copy`, which the kit's `ArrayVec` is not.
 #[derive(Clone, Copy)]
 struct Offsets {
     used: u8,
@@ -37,6 +37,7 @@ struct Offsets {
 }
 
 // The bitmap of a pool: its length, and its bits in words, bit 0 the highest bit of word 0.
+// The length stands beside the words, since it counts bits: 32 of them lie in a word.
 #[derive(Clone, Copy)]
 struct Bitmap {
     size: u8,

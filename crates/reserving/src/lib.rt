@@ -40,7 +40,7 @@ impl Need {
 fn lift_blinded(rows: &mut [[Need; 20]; 100], flags: &[bool; 100])
     ensures { Flagged flags.now rows.old rows.new }
 {
-    // By place, since a proof knows nothing of the rows after a loop over `rows.iter_mut().zip(..)`.
+    // By place; tried: a loop over `rows.iter_mut().zip(..)`, but a proof knows nothing of the rows after it.
     for (i, flag) in flags.iter().enumerate() {
         if *flag {
             rows[i] = [Need::Never; 20];
@@ -49,7 +49,7 @@ fn lift_blinded(rows: &mut [[Need; 20]; 100], flags: &[bool; 100])
 }
 
 // For each slot and first sub-channel the raise from which that candidate survives. It speaks of memories that fit the
-// pool.
+// pool. The rows have room for 100 slots, however many there are, since memory is fixed.
 pub fn needs<M: Asking>(pool: &Pool, m: &M, q: &Question, c: &Candidates) -> [[Need; 20]; 100]
     ensures { Fit (pool_meaning pool.now) (M.meaning m.now) → (question_of q.now).priority ≤ 7 → NeedsAre (pool_meaning pool.now) (M.meaning m.now) (question_of q.now) (slots_of c.now) result }
 {

@@ -1,6 +1,6 @@
 // Lifting the needs of candidates that a record reserves.
 ghost use Rattle.std.specs.Prelude.{◌≡◌, ◌+◌, ◌-◌, ◌^◌, ◌<◌, ◌≤◌};
-ghost use Rattle.rules.specs.Choose.{share, partner_of};
+ghost use Rattle.rules.specs.Choose.{share};
 ghost use Rattle.format1.specs.Records.{meant_of};
 ghost use Rattle.choosing.specs.Searches.{pool_of, asked, slots};
 ghost use Rattle.reserving.specs.Lifts.{RowLifted, Lifted, by_share, by_turn, by_base};
@@ -45,28 +45,11 @@ fn lift_row(row: &mut [Need; 20], wide: u8, taken: Span, need: Need)
 fn lift_turn(rows: &mut [[Need; 20]; 100], search: &Search, t: u64, taken: Span, need: Need)
     ensures { Lifted (slots search.now) (by_turn (pool_of search.now) (asked search.now) t taken.first taken.many need) rows.old rows.new }
 {
-    // By place, since a proof knows nothing of the rows after a loop over `rows.iter_mut().zip(..)`.
+    // By place; tried: a loop over `rows.iter_mut().zip(..)`, but a proof knows nothing of the rows after it.
     for (i, slot) in search.slots.iter().enumerate() {
         if search.is_turn(slot.index, t) {
             lift_row(&mut rows[i], search.question.length, taken, need);
         }
-    }
-}
-
-// The index of the partner of a record that is based at b, if it has one.
-fn partner(what: &Record, b: u64) -> Option<u64>
-    requires { b < 2 ^ 64 - 2 ^ 8 }
-    ensures { result ≡ partner_of (meant_of what.now) b }
-{
-    let gap = u64::from(what.gap);
-    if gap == 0 {
-        return None;
-    }
-    // A number and no enum: callers fill it in, and one above 1 names no partner.
-    match what.again {
-        0 => Some(b + gap),
-        1 => b.checked_sub(gap),
-        _ => None,
     }
 }
 
@@ -87,7 +70,7 @@ pub(crate) fn lift_base(
         many: what.length,
     };
     lift_turn(rows, search, b, own, need);
-    let Some(t) = partner(what, b) else {
+    let Some(t) = what.partner(b) else {
         return;
     };
     let other = Span {

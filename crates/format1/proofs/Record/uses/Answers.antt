@@ -1,21 +1,27 @@
--- The test is the rules' test, which says what the rule says.
-use Rattle.std.proofs.Common.{◌≡◌, ℕ, Bool, Decides, sym, ◌∙◌, rules}
-use Rattle.rules.specs.Format.{Record, Uses, uses}
-use Rattle.rules.proofs.Uses.{uses_is, uses_test}
-use Rattle.format1.specs.Records.{meant_of}
+-- The partner is at the index exactly where the rules' test says so.
+use Rattle.std.proofs.Common.{◌≡◌, ℕ, ◌^◌, ◌<◌, ◌&&◌, Some, nat_eq, nat_lt, rules, arith}
+use Rattle.std.specs.Option.{option_eq}
+use Rattle.std.proofs.lemmas.Bool.Decides.{nat_tests}
+use Rattle.rules.specs.Format.{Record, partner, uses}
+use Rattle.rules.specs.Choose.{partner_of}
+use Rattle.format1.specs.Records.{meant_of, fitting}
 use Rattle.format1.proofs.Record.uses.Goals as goal
 
-means : (r : Record) (a b channel index : ℕ) (t : Bool) → t ≡ uses r a b channel index → Decides t (Uses r a b channel index)
-means r a b channel index t e = (λ h. uses_is r a b channel index (sym e ∙ h), λ u. e ∙ uses_test r a b channel index u)
+tells : (r : Record) (b index : ℕ) → index < 2 ^ 64 → option_eq nat_eq (fitting (partner_of r b)) (Some index) ≡ (nat_lt 0 r.gap && partner r b index)
+tells r b index l = grind (arith, nat_tests)
 
-pub returns-then-own : goal.returns-then-own
+pub returns-then-own-clause-value : goal.returns-then-own-clause-value
 unfolding uses
-returns-then-own c = record { value = search rules; means = means (meant_of c.args.self.now) _ _ _ _ _ (search rules) }
+returns-then-own-clause-value c = search rules
 
-pub returns-then-at_partner : goal.returns-then-at_partner
+pub returns-then-at_partner-clause-value : goal.returns-then-at_partner-clause-value
 unfolding uses
-returns-then-at_partner c = record { value = search rules; means = means (meant_of c.args.self.now) _ _ _ _ _ (search rules) }
+returns-then-at_partner-clause-value c =
+    let t = tells (meant_of c.args.self.now) c.args.base c.args.index (omega arith) in
+    search rules
 
-pub returns-else-at_partner : goal.returns-else-at_partner
+pub returns-else-at_partner-clause-value : goal.returns-else-at_partner-clause-value
 unfolding uses
-returns-else-at_partner c = record { value = search rules; means = means (meant_of c.args.self.now) _ _ _ _ _ (search rules) }
+returns-else-at_partner-clause-value c =
+    let t = tells (meant_of c.args.self.now) c.args.base c.args.index (omega arith) in
+    search rules
