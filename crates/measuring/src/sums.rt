@@ -57,11 +57,7 @@ impl Sum {
     fn has(&self, z: u64, step: u64) -> bool
         ensures { result ≡ lies step z self.now.at }
     {
-        let back = self.at.saturating_sub(z);
-        if step == 0 {
-            return back == 0;
-        }
-        back % step == 0
+        self.at.saturating_sub(z).is_multiple_of(step)
     }
 
     // Adds the powers of an index z, if that is a sample of it.
