@@ -7,3 +7,4 @@ pub mod Answered
 pub mod Asked
 pub mod Joined
 pub mod Fewer
+pub mod Fifths

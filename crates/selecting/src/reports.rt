@@ -40,11 +40,7 @@ fn copy_of(places: &[Place]) -> ArrayVec<Place, 400>
     requires { length places.now ≤ 400 }
     ensures { result.items ≡ places.now }
 {
-    let mut copy = ArrayVec::new();
-    for place in places {
-        copy.push(*place);
-    }
-    copy
+    ArrayVec::try_from(places).unwrap()
 }
 
 // A report of entries, with every place marked.
@@ -80,7 +76,7 @@ pub(crate) fn report(
     requires { (raise ≤ 43) × (leaves entries.old.items raise ≡ true) }
     ensures { Ranked entries.old.items raise question apart result }
 {
-    let size = (entries.len() + 4) / 5;
+    let size = entries.len().div_ceil(5);
     keep_free(entries, raise);
     rank_all(entries);
     report_of(&entries[..size], raise, question, apart)
