@@ -22,16 +22,15 @@ fn list_slot(
     requires { (array_vec_len entries.old + width ≤ 2000) × (width ≤ 20) }
     ensures { entries.new.items ≡ entries.old.items ++ map (entry_at slot.now needs.now means.now) (range_with_len 0 width) }
 {
-    // The first sub-channels are numbers, which stand in the entries.
-    for channel in 0..width {
+    for ((channel, need), mean) in (0..width).zip(needs).zip(means) {
         entries.push(Entry {
             place: Place {
                 subframe: slot.subframe,
                 index: slot.index,
                 channel,
             },
-            need: needs[usize::from(channel)],
-            mean: means[usize::from(channel)],
+            need: *need,
+            mean: *mean,
         });
     }
 }
