@@ -55,6 +55,7 @@ impl Report {
     pub fn unmark(&mut self, i: usize) -> Result<Place, Refusal>
         ensures { Unmarked self.old i result self.new }
     {
+        // A test before `remove`: with `pop_at` the proof is three times as long, and goes into what the library keeps to itself.
         if i >= self.marked.len() {
             return Err(Refusal::NoPlace);
         }
