@@ -1,4 +1,4 @@
-use Rattle.std.proofs.Common.{◌+◌, ◌*◌, ◌/◌, length, take, count_by, ap, subst, ◌∙◌, arith, length-take}
+use Rattle.std.proofs.Common.{◌*◌, length, take, count_by, ap, subst, ◌∙◌, arith, length-take}
 use Rattle.std.specs.List.Sorted.{IsPermutation}
 use Rattle.std.proofs.lemmas.List.Sums.{length-filter}
 use Rattle.std.proofs.lemmas.Bool.{leb-true}
