@@ -20,6 +20,7 @@ use std::array;
 pub fn lower(x: Option<Mean>, y: Option<Mean>) -> bool
     ensures { result ≡ lower_mean (fraction_of x) (fraction_of y) }
 {
+    // Means are taken apart by `let .. else`, so that each absence stands beside its own answer.
     let Some(a) = x else {
         return false;
     };
@@ -110,6 +111,7 @@ pub fn means<M: Asking>(
     ensures { Fit (pool_meaning pool.now) (M.meaning m.now) → MeansAre (pool_meaning pool.now) (M.meaning m.now) (question_of q.now) (slots_of c.now) result }
 {
     let slots = c.slots();
+    // There is no heap, so each array has room for the most slots that a question can have, 100.
     let mut all = none_yet(slots);
     let sums = &mut all[..slots.len()];
     let step = sample_step(pool, q);

@@ -39,6 +39,7 @@ fn select(
 }
 
 // Looks for the candidates of a question, for what was heard of them, and selects among them.
+// It takes what `choose` takes: callers hold these five apart, and a struct of them would be made for this one call.
 fn look<M: Asking>(
     pool: &Pool,
     at: u64,

@@ -46,6 +46,7 @@ pub(crate) fn list(
     ensures { entries.new.items ≡ rows_of (slots_of found.now) found.now.width needs.now means.now (length (slots_of found.now)) }
 {
     let width = found.width();
+    // The arrays have room for the most slots that a question can have, so the zip ends at the last slot.
     for ((slot, needs), means) in found.slots().iter().zip(needs).zip(means) {
         list_slot(entries, slot, width, needs, means);
     }
