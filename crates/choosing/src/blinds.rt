@@ -20,7 +20,7 @@ impl Search<'_> {
     fn mark_turn(&self, flags: &mut [bool; 100], t: u64)
         ensures { Marked (slots self.now) (λ y. turn y (interval (pool_of self.now) (asked self.now)) (asked self.now).turns t) flags.old flags.new }
     {
-        // By place, since a proof knows nothing of the flags after a loop over `flags.iter_mut().zip(..)`.
+        // By place; tried: a loop over `flags.iter_mut().zip(..)`, but a proof knows nothing of the flags after it.
         for (i, slot) in self.slots.iter().enumerate() {
             flags[i] |= self.is_turn(slot.index, t);
         }

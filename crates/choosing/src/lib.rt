@@ -36,7 +36,7 @@ pub struct Slot {
 }
 
 // The candidates of a question: each of the slots in use, with each first sub-channel below the width.
-// The slots have a count beside them, since the type is Copy and the list type of arrayvec is not.
+// The slots have a count beside them, since the type promises Copy, which the list type of arrayvec is not.
 #[derive(Clone, Copy)]
 pub struct Candidates {
     slots: [Slot; 100],

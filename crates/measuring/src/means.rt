@@ -48,7 +48,7 @@ fn readings_at<M: Asking>(m: &M, z: u64) -> Option<[u32; 20]>
     ensures { Heard (M.meaning m.now) z result }
 {
     let mut readings = [0; 20];
-    // The memory is asked by the number of a sub-channel, so the loop is over numbers.
+    // By place: the memory is asked by the number of a sub-channel, which a loop over the places would have to make from each.
     for a in 0..m.channels() {
         readings[usize::from(a)] = m.reading(z, a).ok()??;
     }

@@ -22,7 +22,8 @@ pub(crate) struct Walk<'a, M: Asking> {
 }
 
 impl<M: Asking> Walk<'_, M> {
-    // Lifts the candidates that a record reserves, which was heard at a resource of an index.
+    // Lifts the candidates that a record reserves, which was heard at a resource of an index. Each call has an index of its own,
+    // so that it lies inside is asked here and below, and not of a type.
     fn lift_held(&self, rows: &mut [[Need; 20]; 100], held: &Held, z: u64, resource: u8)
         requires inside { Inside (M.meaning self.now.memory.now) z }
         requires priority { held.now.what.priority ≤ 7 }

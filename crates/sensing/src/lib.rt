@@ -107,7 +107,8 @@ pub trait Keeping: Asking {
         ensures refused { (answered result ≢ 0) → self.new ≡ self.old };
 
     // Keeps the record that four bytes hold, heard at a resource of an index. Which place it is given is left open: it
-    // is required only that the record then stands there, that no other is lost, and that 31 comes by their number.
+    // is required only that the record then stands there, that no other is lost, and that 31 comes by their number. The four
+    // parameters are what the receiver driver hands over, and its callers hold to them.
     fn keep_record(
         &mut self,
         index: u64,
