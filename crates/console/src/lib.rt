@@ -69,6 +69,7 @@ fn packed(digits: &[u8]) -> [u8; 13]
     ensures { (i : ℕ) → i < 104 → byte_bit result i ≡ (slice_index digits.now i == 49) }
 {
     let mut bytes = [0u8; 13];
+    // By place, since eight digits go to a byte: two loops, one in the other, would be no plainer.
     for (i, digit) in digits[..digits.len().min(104)].iter().enumerate() {
         if *digit == b'1' {
             bytes[i / 8] |= 1 << (7 - i % 8);

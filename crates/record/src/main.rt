@@ -102,6 +102,7 @@ fn answer_to(rt: &HostRuntime, q: Question) -> anyhow::Result<()> {
 
 fn run(rt: &HostRuntime) -> anyhow::Result<()> {
     let input = io::read_to_string(rt.alloc(), rt.stdin())?;
+    // Each program has such a choice of its own: a call with both texts would be as long.
     let text = if input.is_empty() {
         EXAMPLE
     } else {

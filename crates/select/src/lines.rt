@@ -104,7 +104,7 @@ fn other_pool(channels: &str, uplink: &str, bits: &str, level: &str) -> Result<L
     }))
 }
 
-// Three sub-channels in every subframe, interval 1, and level 10.
+// Three sub-channels in every subframe, interval 1, and level 10. It is written out, as above: each pool shows all that is asked.
 pub(crate) fn built_in() -> Settings {
     Settings {
         channels: 3,
@@ -126,7 +126,8 @@ fn offsets(words: &[&str]) -> Result<Line, Fault> {
     Ok(Line::Offsets(offsets))
 }
 
-// The interval mask: code c sets bit c - 1.
+// The interval mask: code c sets bit c - 1. The program calendar folds its own fields in the same way: they are separated
+// otherwise, and have faults of their own.
 fn allow(words: &[&str]) -> Result<Line, Fault> {
     let mask = words.iter().try_fold(0, |mask, word| {
         Ok(mask | code_bit(parsed(*word)?).ok_or(Fault::Code)?)

@@ -217,6 +217,7 @@ impl Scene {
 fn run(rt: &HostRuntime) -> anyhow::Result<()> {
     let heap = rt.alloc();
     let input = io::read_to_string(heap, rt.stdin())?;
+    // Each program has such a choice of its own: a call with both texts would be as long.
     let text = if input.is_empty() {
         EXAMPLE
     } else {

@@ -13,6 +13,7 @@ use sensing::Held;
 
 // Can a memory for N sub-channels and a window of W be made over these slices? It takes W + 1 rows, and N readings and N
 // places for each of them. N and W are a pool's: 17 is also the answer where N is not 1 to 20, or W is above 1000.
+// The slices stand each by itself, here and in `new`, since callers hold to both calls as they are.
 pub fn fits(
     channels: u8,
     window: u64,

@@ -13,6 +13,7 @@ use answer::Refusal;
 
 // Can a memory for N sub-channels and a window of W be made over these slices? It takes W + 1 rows, (W + 1) * N readings
 // and one place.
+// The slices stand each by itself, here and in `new`, since callers hold to both calls as they are.
 pub fn fits(
     channels: u8,
     window: u64,
