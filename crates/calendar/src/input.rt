@@ -55,7 +55,7 @@ fn offsets(text: &str) -> Result<Offsets, Fault> {
     Ok(offsets)
 }
 
-// The interval mask: code c sets bit c - 1.
+// The interval mask: code c sets bit c - 1. The program select folds its own words in the same way, with faults of its own.
 fn intervals(text: &str) -> Result<u16, Fault> {
     if none(text) {
         return Ok(0);
@@ -78,7 +78,7 @@ fn levels(text: &str) -> Result<[u8; 64], Fault> {
 }
 
 impl Input {
-    // The built-in pool, from the first subframe that a unit may start at.
+    // The built-in pool, from the first subframe that a unit may start at. It is written out, so that it shows all that is asked.
     pub(crate) fn built_in() -> Input {
         Input {
             settings: Settings {

@@ -40,7 +40,8 @@ impl Search<'_> {
         }
     }
 
-    // Marks the subframes that an index of the memory blinds.
+    // Marks the subframes that an index of the memory blinds. That the index lies inside is asked of each call, since each has
+    // an index of its own.
     fn mark_index<M: Asking>(&self, m: &M, flags: &mut [bool; 100], z: u64)
         requires { ((M.meaning m.now).next ≤ 2 ^ 63) × Inside (M.meaning m.now) z }
         ensures { Marked (slots self.now) (λ y. blinds (pool_of self.now) (M.meaning m.now) (asked self.now) y z) flags.old flags.new }
@@ -58,7 +59,8 @@ impl Search<'_> {
     }
 }
 
-// Which of the candidates' subframes are blinded, by one walk over the window. It speaks of memories that fit the pool.
+// Which of the candidates' subframes are blinded, by one walk over the window. It speaks of memories that fit the pool, and
+// can't fail at others: callers take flags. There is room for 100 slots, however many there are, since memory is fixed.
 pub fn blinded<M: Asking>(pool: &Pool, m: &M, q: &Question, c: &Candidates) -> [bool; 100]
     ensures { (M.meaning m.now).next ≤ 2 ^ 63 → (M.meaning m.now).window ≡ window (pool_meaning pool.now) → BlindedAre (pool_meaning pool.now) (M.meaning m.now) (question_of q.now) (slots_of c.now) result }
 {

@@ -25,6 +25,7 @@ impl Candidates {
         }
     }
 
+    // Adds a slot. The count stands beside the slots for the reason given at the type.
     fn push(&mut self, slot: Slot)
         requires { self.old.count < 100 }
         ensures slots { slots_of self.new ≡ slots_of self.old ++ slot ∷ [] }

@@ -44,7 +44,7 @@ pub struct Offsets {
 }
 
 impl Offsets {
-    // Takes one more. Past the third it is only counted, and past 255 not even that.
+    // Takes one more. Past the third it is only counted, for the reason given at the type, and past 255 not even that.
     pub fn push(&mut self, offset: u8)
         ensures used { self.new.used ≡ min (self.old.used + 1) 255 }
         ensures values { self.new.values ≡ slice_set self.old.values self.old.used offset }

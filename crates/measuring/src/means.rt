@@ -55,7 +55,8 @@ fn readings_at<M: Asking>(m: &M, z: u64) -> Option<[u32; 20]>
     Some(readings)
 }
 
-// Adds the readings of an index, if it was listened to, to the sums whose sample it is.
+// Adds the readings of an index, if it was listened to, to the sums whose sample it is. Each call has an index of its own, so
+// that it lies inside is asked of each.
 fn add_index<M: Asking>(m: &M, q: &Question, sums: &mut [Sum], step: u64, z: u64)
     requires { Inside (M.meaning m.now) z × AllUpTo 999 sums.old }
     ensures { AllAdded (M.meaning m.now) (question_of q.now) step z sums.old sums.new }

@@ -14,7 +14,7 @@ const CHANNELS: u8 = 3;
 
 const WINDOW: u64 = 100;
 
-// A row for each index of the window, and a reading for each sub-channel of a row.
+// A row for each index of the window, and a reading for each sub-channel of a row. By `as`, since a constant calls no function.
 const ROWS: usize = WINDOW as usize + 1;
 
 const CELLS: usize = ROWS * CHANNELS as usize;

@@ -1,4 +1,5 @@
-// A memory with a place for each record that can be held, and what always holds of it.
+// A memory with a place for each record that can be held, and what always holds of it. That it repeats calls to the ring is
+// for the reason that stands with the other kind, in sparse.rt.
 ghost use Rattle.std.specs.Prelude.{ℕ, ◌+◌, ◌*◌, ◌≤◌, length};
 ghost use Rattle.rules.specs.Sensing.{Sound};
 ghost use Rattle.memory.specs.DensePlaces.{meant};

@@ -33,7 +33,7 @@ pub(crate) fn fits(channels: u8, window: u64, rows: &[Row], readings: &[u32]) ->
     ensures exact { Decides (is_ok result) (FitsRing channels window (length rows.now) (length readings.now)) }
     ensures answer { answered result ≡ (if is_ok result then 0 else 17) }
 {
-    if channels < 1 || channels > 20 || window > 1000 {
+    if !matches!(channels, 1..=20) || window > 1000 {
         return Err(Refusal::Lent);
     }
     let rows_wanted = window as usize + 1;
@@ -132,7 +132,8 @@ impl<'a> Ring<'a> {
     }
 
     // Makes the row of the index blank and stamps it, unless it is stamped already. No cell changes by that. Was the row
-    // another index's? Each call has an index of its own, so that it is not past the next one is asked here and not of a type.
+    // another index's? A bool answers it, since nothing comes with the answer. Each call has an index of its own, so that it
+    // is not past the next one is asked here and below, and not of a type.
     pub(crate) fn claim(&mut self, index: u64) -> bool
         requires { index ≤ self.old.next }
         ensures other { result ≡ not (stamped self.old index) }

@@ -49,7 +49,7 @@ fn lift_blinded(rows: &mut [[Need; 20]; 100], flags: &[bool; 100])
 }
 
 // For each slot and first sub-channel the raise from which that candidate survives. It speaks of memories that fit the
-// pool. The rows have room for 100 slots, however many there are, since memory is fixed.
+// pool, and can't fail at others: callers take rows. There is room for 100 slots, however many there are, since memory is fixed.
 pub fn needs<M: Asking>(pool: &Pool, m: &M, q: &Question, c: &Candidates) -> [[Need; 20]; 100]
     ensures { Fit (pool_meaning pool.now) (M.meaning m.now) → (question_of q.now).priority ≤ 7 → NeedsAre (pool_meaning pool.now) (M.meaning m.now) (question_of q.now) (slots_of c.now) result }
 {

@@ -57,7 +57,8 @@ fn look<M: Asking>(
 }
 
 // Chooses for a question of the scheduler at a subframe: a report, or the first question of 34 to 38, 40 and 41 that is
-// answered no. The memory is only asked, and the raise is zero again on every way out. It speaks of memories that fit the pool.
+// answered no. The memory is only asked, and the raise is zero again on every way out. It speaks of memories that fit the pool,
+// and of subframes below 2^63. The scheduler holds its five parameters apart.
 pub fn choose<M: Asking>(
     pool: &Pool,
     at: u64,

@@ -138,7 +138,7 @@ fn heard(n: u8, resource: u8, bytes: [u8; 4], rsrp: i16) -> Result<Held, Refusal
     ensures { Heard n resource bytes rsrp result }
 {
     let what = read(n, resource, bytes)?;
-    if rsrp < -1600 || rsrp > 0 {
+    if !matches!(rsrp, -1600..=0) {
         return Err(Refusal::Rsrp);
     }
     Ok(Held { what, rsrp })
@@ -158,7 +158,7 @@ fn beside(held: Option<Held>, new: Held) -> Result<Option<Held>, Refusal>
 }
 
 // The record that a memory is asked to keep: absent where it is held already, or refused by the first question answered
-// no. What is left to ask is whether a place is free.
+// no. What is left to ask is whether a place is free. Its parameters are those of `keep_record`.
 pub fn examine_record<M: Asking>(
     m: &M,
     index: u64,
@@ -198,6 +198,7 @@ fn same_readings<M: Asking>(m: &M, index: u64, readings: &[u32]) -> bool
     requires { length readings.now ≡ (M.meaning m.now).channels }
     ensures { SameReadings (M.meaning m.now) index readings.now result }
 {
+    // By number: a memory is asked by that of a sub-channel, and no proof was found of `all` over what it answers.
     for (a, reading) in readings.iter().enumerate() {
         let Ok(Some(held)) = m.reading(index, a as u8) else {
             return false;
