@@ -95,7 +95,8 @@ fn find(pool: &Pool, first: u64, end: u64, width: u8) -> Candidates
     found
 }
 
-// The candidates of a question at a subframe, or the first question from 34 to 40 that is answered no.
+// The candidates of a question at a subframe, or the first question from 34 to 40 that is answered no. It speaks of subframes
+// below 2^63, and can be asked at others.
 pub fn candidates(pool: &Pool, at: u64, q: &Question) -> Result<Candidates, Refusal>
     ensures { at < 2 ^ 63 → Found (meaning pool.now) at (question_of q.now) result }
 {

@@ -1,5 +1,5 @@
 // A memory with a list of records, each in the first place that was free, and what always holds of it. It repeats the
-// calls to the ring that a dense memory makes, six functions of a line or a few: one type over a trait of places would state
+// calls to the ring that a dense memory makes, eight functions of a line or a few: one type over a trait of places would state
 // by laws where a record lies, what a slide drops, what a row that is taken over clears, and when no place is free.
 ghost use Rattle.std.specs.Prelude.{◌≡◌, ℕ, ◌-◌, true};
 ghost use Rattle.rules.specs.Sensing.{Sound};
