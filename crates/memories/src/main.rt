@@ -113,9 +113,8 @@ fn perform<M: Keeping>(m: &mut M, step: Step) -> Result<Kept, Refusal> {
 // The number of an answer: 0 for new, 1 for what was held already, or the refusal's.
 fn number(answer: Result<Kept, Refusal>) -> u8 {
     match answer {
-        Ok(Kept::New) => 0,
         Ok(Kept::Already) => 1,
-        Err(refusal) => refusal.number(),
+        other => console::number(other),
     }
 }
 
