@@ -1,7 +1,7 @@
 // Selecting: the fewest raises, the order of the survivors, and the report.
 #![tactic(auto)]
 
-ghost use Rattle.std.specs.Prelude.{◌≡◌, ℕ, ◌≤◌, true};
+ghost use Rattle.std.specs.Prelude.{◌≡◌, ℕ, ◌≤◌, true, length};
 ghost use Rattle.rules.specs.Ranks.{rising};
 ghost use Rattle.selecting.specs.Entries.{sooner, SomeOf};
 
@@ -26,11 +26,22 @@ pub struct Place {
 }
 
 // A candidate as it is ranked: where it lies, the raise from which it survives, and its mean.
-#[derive(Clone, Copy, Default)]
+#[derive(Clone, Copy)]
 pub(crate) struct Entry {
     place: Place,
     need: Need,
     mean: Option<Mean>,
+}
+
+// What fills a list of candidates past its last one. It is all zeros, so that a list is made at once and not moved about.
+impl Default for Entry {
+    fn default() -> Entry {
+        Entry {
+            place: Place::default(),
+            need: Need::From(0),
+            mean: None,
+        }
+    }
 }
 
 // How often the thresholds were lifted, while one selection works. It is zero between selections.
@@ -48,6 +59,7 @@ pub struct Report {
     raise: u8,
     question: Question,
     apart: u32,
+    ghost few: { length places.items ≤ 400 },
     ghost lifted: { raise ≤ 43 },
     ghost ordered: { rising sooner places.items ≡ true },
     ghost some: { ∥ SomeOf marked.items places.items ∥₁ },

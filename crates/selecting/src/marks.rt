@@ -1,5 +1,5 @@
 // What a report answers, and the marks of its places.
-ghost use Rattle.std.specs.Prelude.{◌≡◌, ℕ, length};
+ghost use Rattle.std.specs.Prelude.{◌≡◌, ℕ, ◌≤◌, length};
 ghost use Rattle.selecting.specs.Made.{shown, left};
 ghost use Rattle.selecting.specs.Marks.{asked_place, answered_place, Unmarked};
 
@@ -17,7 +17,8 @@ impl Report {
 
     // How many places it has, marked or not.
     pub fn size(&self) -> usize
-        ensures { result ≡ length (shown self.now) }
+        ensures value { result ≡ length (shown self.now) }
+        ensures few { result ≤ 400 }
     {
         self.places.len()
     }
@@ -38,7 +39,8 @@ impl Report {
 
     // How many places are still marked.
     pub fn left(&self) -> usize
-        ensures { result ≡ length (left self.now) }
+        ensures value { result ≡ length (left self.now) }
+        ensures few { result ≤ 400 }
     {
         self.marked.len()
     }

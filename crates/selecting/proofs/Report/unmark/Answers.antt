@@ -25,6 +25,7 @@ invariant_of-self c =
     let all = r.places.items in
     let xs = r.marked.items in
     record {
+      few = r.few;
       lifted = r.lifted;
       ordered = r.ordered;
       some = subst (λ ys. ∥ SomeOf ys all ∥₁) (sym c.remove.ensures.items) (∥∥₁_map r.some (some_fewer xs all c.args.i));

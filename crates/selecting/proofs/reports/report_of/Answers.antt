@@ -17,6 +17,12 @@ returns c =
       apart_is = refl;
     }
 
+pub invariant_of-result-clause-few : goal.invariant_of-result-clause-few
+invariant_of-result-clause-few c =
+    let es = c.args.entries.now in
+    let same = length_permutation (map reported es) c.places_of-places.result.items c.places_of-places.ensures.shuffled ∙ length-map es reported in
+    search rules
+
 pub invariant_of-result-clause-some : goal.invariant_of-result-clause-some
 invariant_of-result-clause-some c =
     let all = c.places_of-places.result.items in
