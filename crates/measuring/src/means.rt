@@ -91,15 +91,16 @@ impl Sum {
     }
 }
 
-// The means of each slot.
-fn rows(sums: [Sum; 100]) -> [[Option<Mean>; 20]; 100]
-    ensures { (i : ℕ) → i < 100 → (d : _) → MeansOf (slice_index_or sums i d) (slice_index_or result i []) }
+// The means of each slot that has sums. By place, into one array: a chain over an array of sums would move both arrays about.
+fn rows(sums: &[Sum]) -> [[Option<Mean>; 20]; 100]
+    requires { length sums.now ≤ 100 }
+    ensures { (i : ℕ) → i < length sums.now → (d : _) → MeansOf (slice_index_or sums.now i d) (slice_index_or result i []) }
 {
-    sums.map(
-        |sum|
-            ensures { MeansOf sum result }
-        { sum.means() },
-    )
+    let mut rows = [[None; 20]; 100];
+    for (i, sum) in sums.iter().enumerate() {
+        rows[i] = sum.means();
+    }
+    rows
 }
 
 // For each slot and first sub-channel the mean of that candidate. It speaks of memories that fit the pool.
@@ -120,5 +121,5 @@ pub fn means<M: Asking>(
     for z in next - m.window()..next {
         add_index(m, q, sums, step, z);
     }
-    rows(all)
+    rows(sums)
 }

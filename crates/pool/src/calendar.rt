@@ -10,8 +10,8 @@ use crate::{Offsets, Pool};
 // Subframes come round after this many.
 const DAY: u64 = 10240;
 
-// The uplink positions of each code in ten subframes, bit k for position k.
-const UPLINK: [u16; 8] = [
+// The uplink positions of each code in ten subframes, bit k for position k; a code above 7 has none, and is looked up last.
+const UPLINK: [u16; 9] = [
     0b11_1001_1100,
     0b01_1000_1100,
     0b00_1000_0100,
@@ -20,13 +20,14 @@ const UPLINK: [u16; 8] = [
     0b00_0000_0100,
     0b01_1001_1100,
     0b11_1111_1111,
+    0,
 ];
 
-// The uplink mask of a code; a code above 7 has no uplink position.
+// The uplink mask of a code. Looked up with no branch, so that what several calls have in common is computed once.
 fn mask_of(code: u8) -> u16
     ensures { result ≡ uplink_mask code }
 {
-    UPLINK.get(usize::from(code)).copied().unwrap_or(0)
+    UPLINK[usize::from(code.min(8))]
 }
 
 // Is place d of the 10,240 on an uplink position of the code?
@@ -49,7 +50,8 @@ impl Offsets {
     fn has(&self, d: u16) -> bool
         ensures { result ≡ among (d % 160) (take self.now.used self.now.places) }
     {
-        self.all().contains(&((d % 160) as u8))
+        let place = d % 160;
+        self.all().iter().any(|offset| u16::from(*offset) == place)
     }
 
     // How many subframes before d are on one of them.

@@ -1,5 +1,4 @@
-use Rattle.std.proofs.Common.{◌≡◌, ℕ, ◌+◌, ◌-◌, ◌++◌, length, drop, get_or, ap, ◌∙◌, sym, subst, arith}
-use Rattle.std.proofs.Math.ListN.{get_or-append}
+use Rattle.std.proofs.Common.{◌≡◌, ℕ, ◌+◌, ◌-◌, length, get_or, ap, ◌∙◌, subst, arith}
 use Rattle.pool.specs.Pools.{meaning}
 use Rattle.rules.specs.Calendar.{window}
 use Rattle.choosing.specs.Asked.{question_of}
@@ -35,9 +34,7 @@ returns g c fit i x l h w =
     let q = question_of c.args.q.now in
     let few = c.slots-slots.ensures.few in
     let long = ap length c.slots-slots.ensures.value in
-    let all = c.loop-z.sums ++ drop (length c.slots-slots.result.now) c.none_yet-all.result in
-    let same : get_or all i blank ≡ get_or c.loop-z.sums i blank = get_or-append _ _ blank i (omega arith) in
-    let done = subst (Walked m q c.sample_step-step.result (c.next_index-next.result - m.window) (c.loop-z.z - (c.next_index-next.result - m.window)) (index_of (slots_of c.args.c.now) i)) (sym same) (c.loop-z.invariant.0 i l blank) in
+    let done = c.loop-z.invariant.0 i l blank in
     let n = c.next_index-next.ensures in
     let v = c.window.ensures in
     let old = (g.M.Asking.sound c.args.m.now).old in
@@ -45,4 +42,4 @@ returns g c fit i x l h w =
     let same_window = fit.window in
     let first : c.next_index-next.result - m.window ≡ m.next - window p = omega arith in
     let many : c.loop-z.z - (c.next_index-next.result - m.window) ≡ window p = omega arith in
-    (c.rows.ensures i (omega arith) blank).each x h ∙ walked_mean p m q _ _ _ _ x (get_or all i blank) c.sample_step-step.ensures first many done h (omega (arith, fit.channels))
+    (c.rows.ensures i (omega arith) blank).each x h ∙ walked_mean p m q _ _ _ _ x (get_or c.loop-z.sums i blank) c.sample_step-step.ensures first many done h (omega (arith, fit.channels))
