@@ -138,6 +138,7 @@ impl<'a> Ring<'a> {
         requires { index ≤ self.old.next }
         ensures other { result ≡ not (stamped self.old index) }
         ensures done { Claimed index self.old self.new }
+        ensures readings { self.new.readings.now ≡ self.old.readings.now }
     {
         if self.stands(index) {
             return false;
@@ -149,7 +150,8 @@ impl<'a> Ring<'a> {
     // Marks the index as sent in, and stamps its row with it.
     pub(crate) fn mark_sent(&mut self, index: u64)
         requires { index ≤ self.old.next }
-        ensures { Written index Sent was_sent self.old self.new }
+        ensures done { Written index Sent was_sent self.old self.new }
+        ensures readings { self.new.readings.now ≡ self.old.readings.now }
     {
         stamp(self.rows, self.window, index, State::Sent);
     }
@@ -158,7 +160,8 @@ impl<'a> Ring<'a> {
     pub(crate) fn keep_readings(&mut self, index: u64, new: &[u32])
         requires upto { index ≤ self.old.next }
         requires many { length new.now ≡ self.old.channels }
-        ensures { Written index Listened (listened new.now) self.old self.new }
+        ensures done { Written index Listened (listened new.now) self.old self.new }
+        ensures size { length self.new.readings.now ≡ length self.old.readings.now }
     {
         let at = self.place(index, 0);
         self.readings[at..at + new.len()].copy_from_slice(new);

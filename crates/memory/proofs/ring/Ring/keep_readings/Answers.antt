@@ -7,8 +7,8 @@ use Rattle.sensing.specs.declared.State.TheVariants.{Listened}
 use Rattle.memory.proofs.RowCells.{stamped_cell, other_cell, copied_here, copied_other}
 use Rattle.memory.proofs.ring.Ring.keep_readings.Goals as goal
 
-pub returns : goal.returns
-returns c =
+pub returns-clause-done : goal.returns-clause-done
+returns-clause-done c =
     let r = c.args.self.now in
     let i = c.args.index in
     let new = c.args.new.now in

@@ -3,8 +3,8 @@ use Rattle.sensing.specs.declared.State.TheVariants.{Sent}
 use Rattle.memory.proofs.RowCells.{stamped_cell, other_cell}
 use Rattle.memory.proofs.ring.Ring.mark_sent.Goals as goal
 
-pub returns : goal.returns
-returns c =
+pub returns-clause-done : goal.returns-clause-done
+returns-clause-done c =
     let r = c.args.self.now in
     let is = c.stamp.ensures in
     let rows = c.stamp.new.rows in

@@ -27,8 +27,8 @@ invariant_of-self c =
     let own = c.claim.ensures.owned in
     let r = c.keep_readings.new.self in
     let qs = c.claim.new.places in
-    let same = same_after i s.ring c.claim.new.ring s.places.now qs x.0 own Listened (listened rs) r c.keep_readings.ensures in
-    let d = cell_changed i s.ring c.claim.new.ring s.places.now qs x.0 own Listened (listened rs) r c.keep_readings.ensures in
+    let same = same_after i s.ring c.claim.new.ring s.places.now qs x.0 own Listened (listened rs) r c.keep_readings.ensures.done in
+    let d = cell_changed i s.ring c.claim.new.ring s.places.now qs x.0 own Listened (listened rs) r c.keep_readings.ensures.done in
     record {
       deep = omega (arith, s.deep, c.claim.ensures.size, room_same s.ring.next s.ring r same);
       sound = ∣ listened_sound _ i rs _ (dense_sound s) x.1 d (room_enough r qs) ∣₁;
@@ -44,7 +44,7 @@ returns-then-eq-clause-done c = λ _.
     let rs = c.args.readings.now in
     let is : c.in_ok-kept.kept ≡ New = search rules in
     let x = readings_new (dense s) i rs c.in_ok-kept.kept c.in_ok-kept.ensures is in
-    cell_changed i s.ring c.claim.new.ring s.places.now c.claim.new.places x.0 c.claim.ensures.owned Listened (listened rs) c.keep_readings.new.self c.keep_readings.ensures
+    cell_changed i s.ring c.claim.new.ring s.places.now c.claim.new.places x.0 c.claim.ensures.owned Listened (listened rs) c.keep_readings.new.self c.keep_readings.ensures.done
 
 pub returns-else-eq-clause-answer : goal.returns-else-eq-clause-answer
 returns-else-eq-clause-answer c = readings_kept (dense c.args.self.now) c.args.index c.args.readings.now c.in_ok-kept.kept c.in_ok-kept.ensures

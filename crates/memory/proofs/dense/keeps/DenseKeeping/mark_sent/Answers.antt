@@ -16,8 +16,8 @@ invariant_of-self c =
     let own = c.claim.ensures.owned in
     let r = c.mark_sent.new.self in
     let qs = c.claim.new.places in
-    let same = same_after i s.ring c.claim.new.ring s.places.now qs x.1 own Sent sent r c.mark_sent.ensures in
-    let d = cell_changed i s.ring c.claim.new.ring s.places.now qs x.1 own Sent sent r c.mark_sent.ensures in
+    let same = same_after i s.ring c.claim.new.ring s.places.now qs x.1 own Sent sent r c.mark_sent.ensures.done in
+    let d = cell_changed i s.ring c.claim.new.ring s.places.now qs x.1 own Sent sent r c.mark_sent.ensures.done in
     record {
       deep = omega (arith, s.deep, c.claim.ensures.size, room_same s.ring.next s.ring r same);
       sound = ∣ sent_sound _ i _ (dense_sound s) (from_bare (dense s) i x.3) d (room_enough r qs) ∣₁;
@@ -26,4 +26,4 @@ invariant_of-self c =
 pub returns-clause-done : goal.returns-clause-done
 returns-clause-done c = λ _.
     let s = c.args.self.now in
-    cell_changed c.args.index s.ring c.claim.new.ring s.places.now c.claim.new.places c.in_ok-examine_sent.ensures.1 c.claim.ensures.owned Sent sent c.mark_sent.new.self c.mark_sent.ensures
+    cell_changed c.args.index s.ring c.claim.new.ring s.places.now c.claim.new.places c.in_ok-examine_sent.ensures.1 c.claim.ensures.owned Sent sent c.mark_sent.new.self c.mark_sent.ensures.done

@@ -20,7 +20,7 @@ invariant_of-self c =
     let s = c.args.self.now in
     let is : c.in_ok-kept.kept ≡ New = search rules in
     let x = readings_new (sparse s) c.args.index c.args.readings.now c.in_ok-kept.kept c.in_ok-kept.ensures is in
-    let k = heard_whole c.args.index Listened c.args.readings.now s.ring c.keep_readings.new.self s.places.now (whole s) x.0 x.1 c.keep_readings.ensures in
+    let k = heard_whole c.args.index Listened c.args.readings.now s.ring c.keep_readings.new.self s.places.now (whole s) x.0 x.1 c.keep_readings.ensures.done in
     record { keys = k.keys; lives = k.lives; sound = ∣ k.sound ∣₁ }
 
 pub returns-then-eq-clause-answer : goal.returns-then-eq-clause-answer
