@@ -1,7 +1,7 @@
 -- What a write to a ring does to a memory over it. Assumes nothing.
-use Rattle.std.proofs.Common.{◌≡◌, ℕ, ◌+◌, ◌*◌, ◌%◌, ◌<◌, ◌≤◌, true, eqb, Option, ap, ◌∙◌, ⊎_elim, arith}
+use Rattle.std.proofs.Common.{◌≡◌, ℕ, ◌+◌, ◌*◌, ◌%◌, ◌<◌, ◌≤◌, true, eqb, Option, refl, ap, ◌∙◌, ⊎_elim, arith}
 use Rattle.std.proofs.lemmas.Bool.{eq-eqb, eqb-true, cases_Bool, cond-true, cond-false}
-use Rattle.rules.specs.Sensing.{Meaning, Cell, blank, Inside, Held, Frame, Changed, Nothing, Sound, held_count}
+use Rattle.rules.specs.Sensing.{Meaning, Cell, blank, Inside, Held, Frame, Changed, New, Nothing, Sound, held_count}
 use Rattle.sensing.specs.declared.State.{State}
 use Rattle.sensing.specs.declared.State.TheVariants.{Blank}
 use Rattle.memory.specs.declared.rows.Row.{Row}
@@ -61,6 +61,10 @@ module _ (n : ℕ) (r r' : Ring) (done : Slid n r r') where
   -- no index past the next one of before has a cell
   pub slid_past : (i : ℕ) → r.next < i → cells r' i ≡ blank
   slid_past i past = slid_cells i ∙ past_blank r.channels r.window r.next r.rows.now r.readings.now i r.long r.upto past
+
+-- a ring that holds nothing
+pub begun : (n w : ℕ) (r : Ring) → r.channels ≡ n → r.window ≡ w → r.next ≡ w → Nothing (alone r) → New n w 0 (alone r)
+begun n w r channels window next nothing = record { channels = channels; window = window; next = next; places = refl; nothing = nothing }
 
 -- a memory that holds nothing is sound
 pub empty_sound : (m : Meaning) → Nothing m → 1 ≤ m.channels → m.channels ≤ 20 → m.window ≤ 1000 → m.window ≤ m.next → 1 ≤ m.places → held_count m ≤ m.places → Sound m

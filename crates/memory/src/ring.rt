@@ -4,7 +4,7 @@
 ghost use Rattle.std.specs.Prelude.{◌≡◌, ℕ, ◌+◌, ◌*◌, ◌%◌, ◌<◌, ◌≤◌, not, length, is_ok, if◌then◌else◌, Decides};
 ghost use Rattle.answer.specs.Numbers.{answered};
 ghost use Rattle.rules.specs.Counting.{first_no};
-ghost use Rattle.rules.specs.Sensing.{New, index_questions, resource_questions, asked_mark, asked_reading, listened, sent as was_sent};
+ghost use Rattle.rules.specs.Sensing.{Nothing, index_questions, resource_questions, asked_mark, asked_reading, listened, sent as was_sent};
 ghost use Rattle.sensing.specs.declared.State.TheVariants.{Listened, Sent};
 ghost use Rattle.sensing.specs.Memories.{marked, reading_of};
 ghost use Rattle.memory.specs.RowCells.{Upto};
@@ -46,15 +46,19 @@ pub(crate) fn fits(channels: u8, window: u64, rows: &[Row], readings: &[u32]) ->
 impl<'a> Ring<'a> {
     ghost use Rattle.memory.specs.Rings.{alone, stamped, place, Claimed, Written, Slid};
 
-    // A ring in which every index is blank, whatever the slices hold.
+    // A ring in which every index is blank, whatever the slices hold. The memory over it says which index is next.
     pub(crate) fn new(
         channels: u8,
         window: u64,
+        next: u64,
         rows: &'a mut [Row],
         readings: &'a mut [u32],
     ) -> Ring<'a>
         requires { FitsRing channels window (length rows.old) (length readings.old) }
-        ensures { New channels window 0 (alone result) }
+        ensures channels { result.channels ≡ channels }
+        ensures window { result.window ≡ window }
+        ensures next { result.next ≡ next }
+        ensures nothing { Nothing (alone result) }
     {
         rows.fill(Row::default());
         Ring {
@@ -62,7 +66,7 @@ impl<'a> Ring<'a> {
             readings,
             channels,
             window,
-            next: window,
+            next,
         }
     }
 

@@ -45,7 +45,7 @@ impl<'a> Dense<'a> {
     {
         places.fill(None);
         Dense {
-            ring: Ring::new(channels, window, rows, readings),
+            ring: Ring::new(channels, window, window, rows, readings),
             places,
         }
     }

@@ -45,7 +45,7 @@ impl<'a> Sparse<'a> {
     {
         places.fill(None);
         Sparse {
-            ring: Ring::new(channels, window, rows, readings),
+            ring: Ring::new(channels, window, window, rows, readings),
             places,
         }
     }
